@@ -1,0 +1,13 @@
+pub mod RingTool
+pub mod IntRing
+pub mod NumberLaws
+pub mod SignLaws
+pub mod Number
+pub mod Stored
+pub mod Value
+pub mod Exact
+pub mod Canonical
+pub mod Fits
+pub mod SurdLaws
+pub mod Whole
+pub mod Answer

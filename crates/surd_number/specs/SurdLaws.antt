@@ -1,0 +1,84 @@
+-- Surds as values: those of one value are one Surd, and their order is total.
+use Rattle.std.specs.Prelude.{ℕ, Result, Ok, Err, IfOk}
+use Rattle.std.proofs.Common.{◌≡◌, ◌&&◌, Decides, int_eq, nat_eq, ◌*ℤ◌, ap, ap₂, sym, refl}
+use Rattle.std.specs.Cmp.{IsTotalOrder}
+use Rattle.std.specs.declared.cmp.Ordering.{Ordering}
+use Rattle.std.specs.declared.cmp.Ordering.TheVariants.{Less, Equal, Greater}
+use Rattle.std.specs.Ordering.{is_eq, eq_by_cmp}
+use Rattle.std.proofs.lemmas.Bool.{false≢true}
+use Rattle.std.proofs.lemmas.Bool.Decides.{Decides-and, Decides-int_eq, Decides-eqb, same_from_decides}
+use Rattle.std.proofs.lemmas.Cmp.{on_total}
+use Rattle.std.proofs.Math.Bridge.{le_prop}
+use mathlib.Core.HLevel.{is_prop→PathP, Π_prop}
+use Rattle.surd_number.specs.declared.Surd.{Surd}
+use Rattle.surd_number.specs.declared.Wide.{Wide}
+use Rattle.surd_number.specs.declared.OutOfRange.{OutOfRange}
+use Rattle.surd_number.specs.Number.{Number, power, IsSame, IsCanonical, compare_of, product_of, unit_of, unit_inverse_of}
+use Rattle.surd_number.specs.NumberLaws.{canonical-same, unit_quotient}
+use Rattle.surd_number.specs.SignLaws.{compare_of-equal, compare_of_total}
+use Rattle.surd_number.specs.Stored.{IsStored, IsStoredWide}
+use Rattle.surd_number.specs.Value.{number_of, wide_number_of}
+use Rattle.surd_number.specs.Exact.{IsExactly}
+
+canonical_prop : (x : Number) → IsProp (IsCanonical x)
+canonical_prop x = Π_prop (λ y. Π_prop (λ same. le_prop))
+
+stored_prop : (x : Number) → IsProp (IsStored x)
+stored_prop x = hlevel (canonical_prop x, le_prop)
+
+-- two Surds of one value are one Surd
+pub surd_is : (x y : Surd) → IsSame (number_of x) (number_of y) → x ≡ y
+surd_is x y same =
+    let p : number_of x ≡ number_of y = canonical-same (number_of x) (number_of y) x.stored.0 y.stored.0 same in
+    λ i. record { a = (p i).a; b = (p i).b; k = (p i).k; stored = is_prop→PathP (λ j. IsStored (p j)) (λ j. stored_prop (p j)) x.stored y.stored i }
+
+stored_wide_prop : (x : Number) → IsProp (IsStoredWide x)
+stored_wide_prop x = hlevel (canonical_prop x, le_prop)
+
+-- two Wides of one value are one Wide
+pub wide_is : (x y : Wide) → IsSame (wide_number_of x) (wide_number_of y) → x ≡ y
+wide_is x y same =
+    let p : wide_number_of x ≡ wide_number_of y = canonical-same (wide_number_of x) (wide_number_of y) x.stored.0 y.stored.0 same in
+    λ i. record { a = (p i).a; b = (p i).b; k = (p i).k; stored = is_prop→PathP (λ j. IsStoredWide (p j)) (λ j. stored_wide_prop (p j)) x.stored y.stored i }
+
+-- the order of the values
+abbrev pub surd_cmp : Surd → Surd → Ordering
+surd_cmp x y = compare_of (number_of x) (number_of y)
+
+pub surd_cmp_total : IsTotalOrder surd_cmp
+surd_cmp_total = on_total number_of compare_of_total
+
+is_eq_says : (o : Ordering) → Decides (is_eq o) (o ≡ Equal)
+is_eq_says Less = ((λ e. absurd (false≢true e)), λ e. cc)
+is_eq_says Equal = ((λ e. refl), λ e. refl)
+is_eq_says Greater = ((λ e. absurd (false≢true e)), λ e. cc)
+
+-- what `==` on the parts of two canonical triples says
+parts_say : (x y : Number) → IsCanonical x → IsCanonical y → Decides (int_eq x.a y.a && (int_eq x.b y.b && nat_eq x.k y.k)) (IsSame x y)
+parts_say x y least_x least_y =
+    let d = Decides-and (int_eq x.a y.a) (int_eq x.b y.b && nat_eq x.k y.k) (Decides-int_eq x.a y.a) (Decides-and (int_eq x.b y.b) (nat_eq x.k y.k) (Decides-int_eq x.b y.b) (Decides-eqb x.k y.k)) in (
+      (λ e. let q = d.0 e in (ap₂ (λ m j. m *ℤ power j) q.0 (sym q.1.1), ap₂ (λ m j. m *ℤ power j) q.1.0 (sym q.1.1))),
+      λ same. let e = canonical-same x y least_x least_y same in d.1 (ap (λ (z : Number). z.a) e, (ap (λ (z : Number). z.b) e, ap (λ (z : Number). z.k) e)),
+    )
+
+-- `==` on Surds says that they have one value
+pub surd_eq_says : (x y : Surd) → Decides (int_eq x.a y.a && (int_eq x.b y.b && nat_eq x.k y.k)) (IsSame (number_of x) (number_of y))
+surd_eq_says x y = parts_say (number_of x) (number_of y) x.stored.0 y.stored.0
+
+pub wide_eq_says : (x y : Wide) → Decides (int_eq x.a y.a && (int_eq x.b y.b && nat_eq x.k y.k)) (IsSame (wide_number_of x) (wide_number_of y))
+wide_eq_says x y = parts_say (wide_number_of x) (wide_number_of y) x.stored.0 y.stored.0
+
+-- and so does an order that answers Equal
+pub surd_eq_is : (x y : Surd) → (int_eq x.a y.a && (int_eq x.b y.b && nat_eq x.k y.k)) ≡ eq_by_cmp surd_cmp x y
+surd_eq_is x y = same_from_decides _ _ (surd_eq_says x y) values
+  where
+    values : Decides (eq_by_cmp surd_cmp x y) (IsSame (number_of x) (number_of y))
+    values =
+        let d = is_eq_says (surd_cmp x y) in
+        let tie = compare_of-equal (number_of x) (number_of y) in
+        ((λ e. tie.0 (d.0 e)), λ same. d.1 (tie.1 same))
+
+-- an exact product with a unit's inverse is the quotient by the unit
+pub exactly_quotient : (i j : ℕ) (x : Number) (r : Result Surd OutOfRange) → IsExactly r (product_of x (unit_inverse_of i j)) → IfOk r (λ q. IsSame (product_of (number_of q) (unit_of i j)) x)
+exactly_quotient i j x (Ok q) h = (unit_quotient i j (number_of q) x).1 h
+exactly_quotient i j x (Err e) h = tt
