@@ -1,0 +1,4 @@
+pub mod Wides
+pub mod Faults
+pub mod Offsets
+pub mod Meets

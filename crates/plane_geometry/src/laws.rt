@@ -1,0 +1,42 @@
+//! Laws of the definitions that the other contracts cite. Each is the contract of a function that does nothing.
+
+ghost use Rattle.std.specs.Prelude.{◌≡◌, ℕ, ◌+◌, ◌<◌, ◌↔◌, IsTrue};
+ghost use Rattle.surd_number.specs.Number.{IsSame, unit_of};
+ghost use Rattle.plane_geometry.specs.declared.Line.{Line};
+ghost use Rattle.plane_geometry.specs.declared.Segment.{Segment};
+ghost use Rattle.plane_geometry.specs.Position.{Position, opposite_of, cross_of};
+ghost use Rattle.plane_geometry.specs.Direction.{direction_vector, is_along};
+ghost use Rattle.plane_geometry.specs.CrossTable.{cross_tangents, cross_roots};
+ghost use Rattle.plane_geometry.specs.LineView.{HaveSamePoints};
+ghost use Rattle.plane_geometry.specs.Multiple.{IsPositiveMultiple};
+ghost use Rattle.plane_geometry.specs.SegmentView.{lesser_end, greater_end};
+
+/// From one point to another it goes in a direction exactly where their difference is a positive multiple of it.
+pub fn directions_are_positive_multiples()
+    ensures { (n : ℕ) (p q : Position) → IsTrue (is_along n p q) ↔ IsPositiveMultiple n p q }
+{}
+
+/// Direction `n + 8` is opposite to direction n.
+pub fn directions_have_opposites()
+    ensures { (n : ℕ) → n < 8 → direction_vector (n + 8) ≡ opposite_of (direction_vector n) }
+{}
+
+/// Of the 16 directions, it goes in one at most from one point to another.
+pub fn directions_are_unique()
+    ensures { (m n : ℕ) (p q : Position) → m < 16 → n < 16 → IsTrue (is_along m p q) → IsTrue (is_along n p q) → m ≡ n }
+{}
+
+/// The cross product of a direction below 8 with a later one is a power of `sqrt 2 - 1` times a power of `sqrt 2`.
+pub fn cross_products_are_units()
+    ensures { (m n : ℕ) → m < n → n < 8 → IsSame (cross_of (direction_vector m) (direction_vector n)) (unit_of (cross_tangents m n) (cross_roots m n)) }
+{}
+
+/// Lines are equal exactly where they have the same points of the plane.
+pub fn lines_are_their_points()
+    ensures { (l m : Line) → (l ≡ m) ↔ HaveSamePoints l m }
+{}
+
+/// Segments are equal exactly where they have the same ends.
+pub fn segments_are_their_ends()
+    ensures { (s u : Segment) → (s ≡ u) ↔ ((lesser_end s ≡ lesser_end u) × (greater_end s ≡ greater_end u)) }
+{}

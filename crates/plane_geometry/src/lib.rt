@@ -1,0 +1,205 @@
+//! Points, segments and lines of the plane, with coordinates `(a + b * sqrt 2) / 2^k` and directions in steps of 22.5
+//! degrees.
+#![tactic(auto)]
+
+mod directions;
+pub mod laws;
+mod lines;
+mod meeting;
+mod segments;
+mod sides;
+
+ghost use Rattle.std.specs.Prelude.{◌≡◌, ◌≢◌, ◌≤◌, ◌<◌, ◌↔◌, IsNone, IfSome, IfOk, MatchResult, IsTrue};
+ghost use Rattle.std.specs.Ordering.{is_lt};
+ghost use Rattle.std.specs.Result.{result_ok};
+ghost use Rattle.plane_geometry.specs.Position.{position_of};
+ghost use Rattle.plane_geometry.specs.Stored.{IsStretch};
+ghost use Rattle.plane_geometry.specs.LineStored.{PassesThroughPoint};
+
+pub use directions::direction;
+pub use lines::side;
+pub use meeting::{MeetFault, meet};
+pub use segments::{meets_at_ends, on_segment, overlaps, share_point};
+pub use sides::side_from;
+use sides::{cross_at, is_before};
+use surd_number::{Surd, Wide};
+use thiserror::Error;
+
+/// A point of the plane, ordered by x, then y. Coordinates are in sheet units.
+#[derive(Clone, Copy, Debug, PartialEq, Eq, PartialOrd, Ord, Hash)]
+pub struct Point {
+    pub x: Surd,
+    pub y: Surd,
+}
+
+/// One of the 16 directions in steps of 22.5 degrees, counterclockwise from the x axis.
+#[derive(Clone, Copy, Debug, PartialEq, Eq, PartialOrd, Ord, Hash)]
+pub struct Dir {
+    number: u8,
+    pub ghost in_range: { number ≤ 15 },
+}
+
+/// A straight segment in one of the 16 directions, from its lesser end to its greater one. Segments are ordered by `from`,
+/// then `to`.
+#[derive(Clone, Copy, Debug, PartialEq, Eq, PartialOrd, Ord, Hash)]
+pub struct Segment {
+    from: Point,
+    to: Point,
+    dir: Dir,
+    pub ghost stretch: { IsStretch (record { from = position_of from; to = position_of to; dir = dir.number }) },
+}
+
+/// A line of the plane: a direction from 0 to 7, and the cross product of that direction with any point of the line.
+/// Lines are ordered by direction, then by the triple of the offset.
+#[derive(Clone, Copy, Debug, PartialEq, Eq, PartialOrd, Ord, Hash)]
+pub struct Line {
+    direction: u8,
+    offset: Wide,
+    pub ghost in_range: { direction ≤ 7 },
+    pub ghost passes: { ∥ PassesThroughPoint direction offset ∥₁ },
+}
+
+/// Why two points have no segment between them.
+#[derive(Clone, Copy, Debug, PartialEq, Eq, Error)]
+pub enum SegmentFault {
+    /// Both are the same point.
+    #[error("both ends are equal")]
+    ZeroLength,
+    /// They lie in none of the 16 directions from each other.
+    #[error("the ends have none of the 16 directions")]
+    BadDirection,
+}
+
+impl Dir {
+    ghost use Rattle.plane_geometry.specs.DirView.{dir_number};
+
+    /// The direction of this number, `22.5 * n` degrees; None from 16 on.
+    pub fn new(n: u8) -> Option<Dir>
+        ensures none { IsNone result ↔ (15 < n) }
+        ensures number { IfSome result (λ d. dir_number d ≡ n) }
+    {
+        if n > 15 {
+            None
+        } else {
+            Some(Dir { number: n })
+        }
+    }
+
+    /// The number, 0 to 15.
+    pub fn number(&self) -> u8
+        ensures { result ≡ dir_number self.now }
+    {
+        self.number
+    }
+}
+
+impl Segment {
+    ghost use Rattle.plane_geometry.specs.DirView.{dir_number};
+    ghost use Rattle.plane_geometry.specs.Position.{compare_positions};
+    ghost use Rattle.plane_geometry.specs.Ends.{lesser_of, greater_of, HasNoDirection};
+    ghost use Rattle.plane_geometry.specs.SegmentView.{lesser_end, greater_end, direction_number};
+    ghost use Rattle.plane_geometry.specs.SegmentOf.{segment_from, segment_of};
+
+    /// The segment between two points, the lesser one first.
+    pub fn new(p: &Point, q: &Point) -> Result<Segment, SegmentFault>
+        ensures ends { IfOk result (λ s. (lesser_end s ≡ lesser_of p.now q.now) × (greater_end s ≡ greater_of p.now q.now)) }
+        ensures zero_length { (result ≡ Err SegmentFault.ZeroLength) ↔ (p.now ≡ q.now) }
+        ensures bad_direction { (result ≡ Err SegmentFault.BadDirection) ↔ ((p.now ≢ q.now) × HasNoDirection (position_of p.now) (position_of q.now)) }
+        ensures value { result_ok result ≡ segment_of p.now q.now }
+    {
+        if is_before(p, q) {
+            Segment::in_order(p, q)
+        } else if is_before(q, p) {
+            Segment::in_order(q, p)
+        } else {
+            Err(SegmentFault::ZeroLength)
+        }
+    }
+
+    /// The segment from a point to a later one.
+    fn in_order(from: &Point, to: &Point) -> Result<Segment, SegmentFault>
+        requires { IsTrue (is_lt (compare_positions (position_of from.now) (position_of to.now))) }
+        ensures ends { MatchResult result (λ s. (lesser_end s ≡ from.now) × (greater_end s ≡ to.now)) (λ e. (e ≡ SegmentFault.BadDirection) × HasNoDirection (position_of from.now) (position_of to.now)) }
+        ensures value { result_ok result ≡ segment_from from.now to.now }
+    {
+        match direction(from, to) {
+            Some(dir) => Ok(Segment {
+                from: *from,
+                to: *to,
+                dir,
+            }),
+            None => Err(SegmentFault::BadDirection),
+        }
+    }
+
+    /// The lesser end.
+    pub fn from(&self) -> &Point
+        ensures { result.now ≡ lesser_end self.now }
+    {
+        &self.from
+    }
+
+    /// The greater end.
+    pub fn to(&self) -> &Point
+        ensures { result.now ≡ greater_end self.now }
+    {
+        &self.to
+    }
+
+    /// The direction from the lesser end to the greater one.
+    pub fn dir(&self) -> Dir
+        ensures { dir_number result ≡ direction_number self.now }
+    {
+        self.dir
+    }
+}
+
+impl Line {
+    ghost use Rattle.std.specs.Prelude.{◌%◌};
+    ghost use Rattle.surd_number.specs.Exact.{IsWideOf};
+    ghost use Rattle.plane_geometry.specs.Position.{Position, cross_of};
+    ghost use Rattle.plane_geometry.specs.Direction.{direction_vector, side_of};
+    ghost use Rattle.plane_geometry.specs.DirView.{dir_number};
+    ghost use Rattle.plane_geometry.specs.LineView.{line_number, line_offset, side_of_line};
+
+    /// The line through a point in a direction, taken modulo 8.
+    pub fn through(p: &Point, d: Dir) -> Line
+        ensures number { line_number result ≡ dir_number d % 8 }
+        ensures offset { IsWideOf (line_offset result) (cross_of (direction_vector (line_number result)) (position_of p.now)) }
+        ensures sides { (q : Position) → side_of_line result q ≡ side_of (position_of p.now) (line_number result) q }
+    {
+        let dir = Dir {
+            number: d.number % 8,
+        };
+        Line {
+            direction: dir.number,
+            offset: cross_at(dir, p),
+        }
+    }
+
+    /// The direction, 0 to 7.
+    pub fn number(&self) -> u8
+        ensures { result ≡ line_number self.now }
+    {
+        self.direction
+    }
+
+    /// The cross product of the direction with any point of the line.
+    pub fn offset(&self) -> Wide
+        ensures { result ≡ line_offset self.now }
+    {
+        self.offset
+    }
+
+    /// The direction.
+    pub(crate) fn dir(&self) -> Dir
+        ensures { dir_number result ≡ line_number self.now }
+    {
+        Dir {
+            number: self.direction,
+        }
+    }
+}
+
+#[cfg(test)]
+mod tests;

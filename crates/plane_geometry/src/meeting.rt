@@ -1,0 +1,153 @@
+//! The common point of two lines.
+
+ghost use Rattle.std.specs.Prelude.{◌≡◌, ◌≢◌, ◌≤◌, ◌<◌, ◌^◌, ◌↔◌, pos, IfOk, MatchResult};
+ghost use Rattle.surd_number.specs.Number.{IsSame, product_of, difference_of, power_of, half_root, unit_inverse_of};
+ghost use Rattle.surd_number.specs.Stored.{IsSurd};
+ghost use Rattle.surd_number.specs.Value.{number_of, wide_number_of};
+ghost use Rattle.surd_number.specs.Exact.{IsWideOf, IsSurdOf};
+ghost use Rattle.surd_number.specs.Fits.{FitsOver};
+ghost use Rattle.plane_geometry.specs.Position.{Position, position_of};
+ghost use Rattle.plane_geometry.specs.CrossTable.{cross_tangents, cross_roots};
+ghost use Rattle.plane_geometry.specs.LineView.{line_number, IsOnLine, HasNoCommonPoint};
+ghost use Rattle.plane_geometry.specs.MeetLaws.{meeting_of};
+ghost use Rattle.plane_geometry.specs.Part.{part_number};
+
+use crate::sides::{Part, parts, scaled};
+use crate::{Line, Point};
+use surd_number::Wide;
+use thiserror::Error;
+
+/// Why two lines have no common point of two Surds.
+#[derive(Clone, Copy, Debug, PartialEq, Eq, Error)]
+pub enum MeetFault {
+    /// Both have the same direction.
+    #[error("the lines are parallel")]
+    Parallel,
+    /// A coordinate of the common point is not a Surd.
+    #[error("the common point is out of range")]
+    OutOfRange,
+}
+
+/// The powers of `sqrt 2 - 1` in the cross products of the directions 0 to 7 with later ones.
+const TANGENTS: [[u8; 8]; 8] = [
+    [0, 1, 0, 0, 0, 0, 0, 1],
+    [0, 0, 1, 1, 0, 1, 0, 1],
+    [0, 0, 0, 1, 0, 0, 0, 0],
+    [0, 0, 0, 0, 1, 1, 0, 1],
+    [0, 0, 0, 0, 0, 1, 0, 0],
+    [0, 0, 0, 0, 0, 0, 1, 1],
+    [0, 0, 0, 0, 0, 0, 0, 1],
+    [0, 0, 0, 0, 0, 0, 0, 0],
+];
+
+/// The powers of `sqrt 2`.
+const ROOTS: [[u8; 8]; 8] = [
+    [0, 0, 0, 0, 0, 0, 0, 0],
+    [0, 0, 1, 2, 0, 3, 1, 2],
+    [0, 0, 0, 1, 0, 1, 2, 1],
+    [0, 0, 0, 0, 0, 2, 1, 3],
+    [0, 0, 0, 0, 0, 0, 0, 0],
+    [0, 0, 0, 0, 0, 0, 1, 2],
+    [0, 0, 0, 0, 0, 0, 0, 1],
+    [0, 0, 0, 0, 0, 0, 0, 0],
+];
+
+/// The cross product of direction `m` with direction `n`, by its powers of `sqrt 2 - 1` and of `sqrt 2`.
+fn cross_unit(m: u8, n: u8) -> (u8, u8)
+    requires first { m < 8 }
+    requires second { n < 8 }
+    ensures tangents { result.0 ≡ cross_tangents m n }
+    ensures roots { result.1 ≡ cross_roots m n }
+{
+    (
+        TANGENTS[m as usize][n as usize],
+        ROOTS[m as usize][n as usize],
+    )
+}
+
+/// `w / (sqrt 2 - 1)`, which is `t * w + 2 * w`.
+fn over_tangent(w: &Wide) -> Wide
+    requires { FitsOver (2 ^ 60) 16 (wide_number_of w.now) }
+    ensures { IsWideOf result (product_of (wide_number_of w.now) (record { a = pos 1; b = pos 1; k = 0 })) }
+{
+    w.times_unit(1, 0).plus(&w.times_unit(0, 2))
+}
+
+/// `w / sqrt(2)^j`.
+#[inline(always)]
+fn over_roots(w: &Wide, j: u8) -> Wide
+    requires few { j ≤ 3 }
+    requires fits { FitsOver (2 ^ 70) 16 (wide_number_of w.now) }
+    ensures { IsWideOf result (product_of (wide_number_of w.now) (power_of half_root j)) }
+{
+    match j {
+        0 => *w,
+        1 => w.half_root(),
+        2 => w.half_root().half_root(),
+        _ => w.half_root().half_root().half_root(),
+    }
+}
+
+/// The quotient by a unit.
+#[inline(always)]
+fn over_unit(w: &Wide, i: u8, j: u8) -> Wide
+    requires few { i ≤ 1 }
+    requires few_roots { j ≤ 3 }
+    requires fits { FitsOver (2 ^ 60) 16 (wide_number_of w.now) }
+    ensures { IsWideOf result (product_of (wide_number_of w.now) (unit_inverse_of i j)) }
+{
+    if i == 0 {
+        over_roots(w, j)
+    } else {
+        over_roots(&over_tangent(w), j)
+    }
+}
+
+/// `a * o - b * u`, for offsets `o` and `u` of lines.
+fn coordinate(a: Part, l: &Line, b: Part, m: &Line) -> Wide
+    ensures value { IsWideOf result (difference_of (product_of (part_number a) (wide_number_of l.now.offset)) (product_of (part_number b) (wide_number_of m.now.offset))) }
+    ensures fits { FitsOver (2 ^ 60) 16 (wide_number_of result) }
+{
+    scaled(a, &l.offset).minus(&scaled(b, &m.offset))
+}
+
+/// The point with these coordinates, if both are Surds.
+fn narrowed(x: &Wide, y: &Wide) -> Result<Point, MeetFault>
+    ensures { MatchResult result (λ p. IsSurdOf p.x (wide_number_of x.now) × IsSurdOf p.y (wide_number_of y.now)) (λ e. (e ≡ MeetFault.OutOfRange) × (¬ (IsSurd (wide_number_of x.now) × IsSurd (wide_number_of y.now)))) }
+{
+    match x.narrow() {
+        Ok(x) => match y.narrow() {
+            Ok(y) => Ok(Point { x, y }),
+            Err(_) => Err(MeetFault::OutOfRange),
+        },
+        Err(_) => Err(MeetFault::OutOfRange),
+    }
+}
+
+/// The common point of a line and one of a later direction.
+fn meet_later(l: &Line, m: &Line) -> Result<Point, MeetFault>
+    requires { line_number l.now < line_number m.now }
+    ensures { MatchResult result (λ p. IsSurdOf p.x (meeting_of l.now m.now).x × IsSurdOf p.y (meeting_of l.now m.now).y) (λ e. (e ≡ MeetFault.OutOfRange) × (¬ (IsSurd (meeting_of l.now m.now).x × IsSurd (meeting_of l.now m.now).y))) }
+{
+    let (i, j) = cross_unit(l.direction, m.direction);
+    let (l_x, l_y) = parts(l.dir());
+    let (m_x, m_y) = parts(m.dir());
+    let x = over_unit(&coordinate(m_x, l, l_x, m), i, j);
+    let y = over_unit(&coordinate(m_y, l, l_y, m), i, j);
+    narrowed(&x, &y)
+}
+
+/// The common point of two lines.
+pub fn meet(l: &Line, m: &Line) -> Result<Point, MeetFault>
+    ensures parallel { (result ≡ Err MeetFault.Parallel) ↔ (line_number l.now ≡ line_number m.now) }
+    ensures point { IfOk result (λ p. IsOnLine (position_of p) l.now × IsOnLine (position_of p) m.now) }
+    ensures out_of_range { (result ≡ Err MeetFault.OutOfRange) ↔ ((line_number l.now ≢ line_number m.now) × HasNoCommonPoint l.now m.now) }
+{
+    if l.direction < m.direction {
+        meet_later(l, m)
+    } else if m.direction < l.direction {
+        meet_later(m, l)
+    } else {
+        Err(MeetFault::Parallel)
+    }
+}
