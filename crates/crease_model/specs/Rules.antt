@@ -1,0 +1,62 @@
+-- The rules of a crease pattern.
+use Rattle.std.specs.Prelude.{ℕ, ◌+◌, ◌≤◌, Bool, true, false, ◌&&◌, not, List, [], ◌∷◌, length, map, IsTrue, ⊤}
+use Rattle.std.specs.Ordering.{ordering_then, is_lt}
+use Rattle.std.specs.declared.cmp.Ordering.{Ordering}
+use Rattle.std.specs.List.{AllByRecursion}
+use Rattle.plane_geometry.specs.declared.Point.{Point}
+use Rattle.plane_geometry.specs.declared.Segment.{Segment}
+use Rattle.plane_geometry.specs.Position.{compare_positions}
+use Rattle.plane_geometry.specs.Stretch.{Stretch, MeetAtEnds}
+use Rattle.plane_geometry.specs.SegmentView.{stretch_of}
+use Rattle.crease_model.specs.declared.Kind.{Kind}
+use Rattle.crease_model.specs.declared.Kind.TheVariants.{Edge, Mountain, Valley, Aux}
+use Rattle.crease_model.specs.declared.Piece.{Piece}
+use Rattle.crease_model.specs.Sheet.{place_of, is_outside, is_within_side}
+use Rattle.crease_model.specs.View.{PatternView}
+
+-- a mountain or a valley
+abbrev pub is_crease_kind : Kind → Bool
+is_crease_kind Edge = false
+is_crease_kind Mountain = true
+is_crease_kind Valley = true
+is_crease_kind Aux = false
+
+-- no end is outside the sheet
+abbrev pub is_on_sheet : List Point → Stretch → Bool
+is_on_sheet corners s = not (is_outside (place_of corners s.from)) && not (is_outside (place_of corners s.to))
+
+-- a mountain or a valley with no end outside, and not within one side
+abbrev pub is_crease : List Point → Piece → Bool
+is_crease corners p =
+    is_crease_kind p.kind && (is_on_sheet corners (stretch_of p.segment) && not (is_within_side corners (stretch_of p.segment)))
+
+-- each two pieces meet at ends alone
+abbrev pub AllMeetAtEnds : List Piece → Type 0
+AllMeetAtEnds [] = ⊤
+AllMeetAtEnds (p ∷ ps) = AllByRecursion (λ q. MeetAtEnds (stretch_of p.segment) (stretch_of q.segment)) ps × AllMeetAtEnds ps
+
+-- by the lesser end, then by the greater
+abbrev pub compare_stretches : Stretch → Stretch → Ordering
+compare_stretches s u = ordering_then (compare_positions s.from u.from) (compare_positions s.to u.to)
+
+abbrev pub is_before : Segment → Segment → Bool
+is_before s u = is_lt (compare_stretches (stretch_of s) (stretch_of u))
+
+-- each segment stands before the next
+abbrev pub is_ascending : List Segment → Bool
+is_ascending [] = true
+is_ascending (s ∷ []) = true
+is_ascending (s ∷ u ∷ us) = is_before s u && is_ascending (u ∷ us)
+
+abbrev pub segments_of : List Piece → List Segment
+segments_of pieces = map (λ p. p.segment) pieces
+
+abbrev pub size_of : PatternView → ℕ
+size_of p = length p.pieces + length p.aux
+
+pub record IsPattern (p : PatternView) : Type 0 where
+  pub creases : AllByRecursion (λ q. IsTrue (is_crease p.corners q)) p.pieces
+  pub meetings : AllMeetAtEnds p.pieces
+  pub lines : AllByRecursion (λ s. IsTrue (is_on_sheet p.corners (stretch_of s))) p.aux
+  pub size : size_of p ≤ 2000
+  pub order : IsTrue (is_ascending (segments_of p.pieces)) × IsTrue (is_ascending p.aux)

@@ -1,0 +1,195 @@
+//! Sheets and crease patterns: crease pieces and auxiliary lines on a convex sheet.
+#![tactic(auto)]
+
+ghost use Rattle.std.specs.Prelude.{◌≡◌, IfOk};
+ghost use Rattle.plane_geometry.specs.Position.{position_of};
+ghost use Rattle.plane_geometry.specs.SegmentView.{stretch_of};
+ghost use Rattle.crease_model.specs.Sheet.{square_corners, place_of, is_within_side};
+ghost use Rattle.crease_model.specs.View.{empty_on};
+ghost use Rattle.crease_model.specs.Rules.{IsPattern, size_of};
+
+mod sides;
+
+use plane_geometry::{Point, Segment};
+use sides::{place_among, within_side};
+use std::alloc::{AllocError, Global};
+use std::marker::Model;
+use surd_number::Surd;
+
+/// The kind of a line: an edge of the sheet, a mountain or a valley crease, or an auxiliary line.
+#[derive(Clone, Copy, Debug, PartialEq, Eq)]
+pub enum Kind {
+    Edge,
+    Mountain,
+    Valley,
+    Aux,
+}
+
+/// A straight piece of a crease.
+#[derive(Clone, Copy, Debug, PartialEq, Eq)]
+pub struct Piece {
+    pub kind: Kind,
+    pub segment: Segment,
+}
+
+/// Where a point lies: outside the sheet, on its border, or strictly inside.
+#[derive(Clone, Copy, Debug, PartialEq, Eq)]
+pub enum Place {
+    Outside,
+    Border,
+    Inside,
+}
+
+/// A convex sheet, seen as its corners counterclockwise from the least one.
+#[derive(Drop)]
+pub struct Sheet {
+    corners: Vec<Point>,
+}
+
+impl Model for Sheet {
+    ghost use Rattle.std.specs.Prelude.{List, IsTrue};
+    ghost use Rattle.plane_geometry.specs.declared.Point.{Point};
+    ghost use Rattle.crease_model.specs.Sheet.{is_sheet};
+
+    ghost Value = { List Point };
+
+    ghost view = { λ s. s.corners.items };
+
+    ghost invariant = { λ s. IsTrue (is_sheet s.corners.items) };
+}
+
+impl Sheet {
+    /// The square with corners (-200, -200), (200, -200), (200, 200) and (-200, 200).
+    pub fn square(alloc: Global) -> Result<Sheet, AllocError>
+        ensures { IfOk result (λ sheet. sheet ≡ square_corners) }
+    {
+        let low = Surd::whole(-200);
+        let high = Surd::whole(200);
+        let corners = [
+            Point { x: low, y: low },
+            Point { x: high, y: low },
+            Point { x: high, y: high },
+            Point { x: low, y: high },
+        ];
+        Ok(Sheet {
+            corners: Vec::from_slice(alloc, &corners)?,
+        })
+    }
+
+    /// The corners, counterclockwise from the least one.
+    pub fn corners(&self) -> &[Point]
+        ensures { result.now ≡ self.now }
+    {
+        self.corners.as_slice()
+    }
+
+    /// Where a point lies.
+    pub fn place(&self, p: &Point) -> Place
+        ensures { result ≡ place_of self.now (position_of p.now) }
+    {
+        place_among(self.corners.as_slice(), p)
+    }
+
+    /// Whether a segment is within one side.
+    pub fn on_border(&self, s: &Segment) -> bool
+        ensures { result ≡ is_within_side self.now (stretch_of s.now) }
+    {
+        within_side(self.corners.as_slice(), s)
+    }
+
+    fn allocator(&self) -> Global {
+        *self.corners.allocator()
+    }
+
+    /// An equal sheet.
+    pub fn copy(&self) -> Result<Sheet, AllocError>
+        ensures { IfOk result (λ sheet. sheet ≡ self.now) }
+    {
+        Ok(Sheet {
+            corners: Vec::from_slice(self.allocator(), self.corners.as_slice())?,
+        })
+    }
+}
+
+/// A crease pattern: a sheet, crease pieces in order, and auxiliary lines in order.
+#[derive(Drop)]
+pub struct Pattern {
+    sheet: Sheet,
+    pieces: Vec<Piece>,
+    aux: Vec<Segment>,
+}
+
+impl Model for Pattern {
+    ghost use Rattle.crease_model.specs.View.{PatternView};
+    ghost use Rattle.crease_model.specs.Rules.{IsPattern};
+
+    ghost Value = { PatternView };
+
+    ghost view = { λ p. record { corners = p.sheet; pieces = p.pieces.items; aux = p.aux.items } };
+
+    ghost invariant = { λ p. IsPattern (record { corners = p.sheet; pieces = p.pieces.items; aux = p.aux.items }) };
+}
+
+impl Pattern {
+    /// The sheet with nothing on it.
+    pub fn empty(sheet: Sheet) -> Pattern
+        ensures { result ≡ empty_on sheet }
+    {
+        let alloc = sheet.allocator();
+        Pattern {
+            sheet,
+            pieces: Vec::new(alloc),
+            aux: Vec::new(alloc),
+        }
+    }
+
+    /// The sheet.
+    pub fn sheet(&self) -> &Sheet
+        ensures { result.now ≡ self.now.corners }
+    {
+        &self.sheet
+    }
+
+    /// The crease pieces, by their lesser end, then by their greater.
+    pub fn pieces(&self) -> &[Piece]
+        ensures value { result.now ≡ self.now.pieces }
+        ensures rules { IsPattern self.now }
+    {
+        self.pieces.as_slice()
+    }
+
+    /// The auxiliary lines, in the same order.
+    pub fn aux(&self) -> &[Segment]
+        ensures value { result.now ≡ self.now.aux }
+        ensures rules { IsPattern self.now }
+    {
+        self.aux.as_slice()
+    }
+
+    /// How many pieces and auxiliary lines there are.
+    pub fn size(&self) -> u32
+        ensures value { result ≡ size_of self.now }
+    {
+        (self.pieces.len() + self.aux.len()) as u32
+    }
+
+    /// An equal pattern.
+    pub fn copy(&self) -> Result<Pattern, AllocError>
+        ensures { IfOk result (λ pattern. pattern ≡ self.now) }
+    {
+        let alloc = self.sheet.allocator();
+        Ok(Pattern {
+            sheet: self.sheet.copy()?,
+            pieces: Vec::from_slice(alloc, self.pieces.as_slice())?,
+            aux: Vec::from_slice(alloc, self.aux.as_slice())?,
+        })
+    }
+
+    /// The pattern of these parts.
+    pub fn of(sheet: Sheet, pieces: Vec<Piece>, aux: Vec<Segment>) -> Pattern
+        requires { IsPattern (record { corners = sheet; pieces = pieces.items; aux = aux.items }) }
+        ensures { result ≡ record { corners = sheet; pieces = pieces.items; aux = aux.items } }
+    {
+        Pattern { sheet, pieces, aux }
+    }
+}
