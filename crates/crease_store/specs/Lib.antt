@@ -1,0 +1,5 @@
+pub mod Pieces
+pub mod Uncut
+pub mod Answer
+pub mod Added
+pub mod Laws
