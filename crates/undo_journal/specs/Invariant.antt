@@ -1,0 +1,16 @@
+-- What every journal keeps.
+use Rattle.std.specs.Prelude.{ℕ, ◌+◌, ◌<◌, ◌≤◌, List, [], ◌∷◌, length, ⊤}
+use Rattle.std.specs.List.{AllByRecursion}
+use Rattle.undo_journal.specs.declared.Version.{Version}
+use Rattle.undo_journal.specs.Versions.{JournalView, parent_at}
+
+-- each number on the redo list names a version, and leaves room for as many undos as stand before it
+abbrev pub IsRedoable : ℕ → List ℕ → Type 0
+IsRedoable count [] = ⊤
+IsRedoable count (n ∷ ns) = (n + length ns < count) × IsRedoable count ns
+
+pub record IsJournal (j : JournalView) : Type 0 where
+  pub current : j.current + length j.redo < length j.versions
+  pub redo : IsRedoable (length j.versions) j.redo
+  pub parents : (v : ℕ) → v < length j.versions → 0 < v → parent_at j v < v
+  pub most : length j.versions ≤ 1001
