@@ -1,0 +1,11 @@
+pub mod Bounds
+pub mod DecimalValues
+pub mod DigitTexts
+pub mod DigitValues
+pub mod Fractions
+pub mod Fronts
+pub mod LowestTerms
+pub mod PrintedNumbers
+pub mod Grammar
+pub mod PrintedLines
+pub mod ReadBack

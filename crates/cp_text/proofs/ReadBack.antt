@@ -1,0 +1,13 @@
+-- The laws of the text, each proved.
+use Rattle.cp_text.specs.Laws.{NumbersReadBack, LinesReadBack, PatternsReadBack}
+use Rattle.cp_text.proofs.PrintedNumbers.{number_text-reads}
+use Rattle.cp_text.proofs.PrintedLines.{line_body-reads, pattern_text-reads}
+
+pub numbers_read_back : NumbersReadBack
+numbers_read_back = number_text-reads
+
+pub lines_read_back : LinesReadBack
+lines_read_back = line_body-reads
+
+pub patterns_read_back : PatternsReadBack
+patterns_read_back = pattern_text-reads

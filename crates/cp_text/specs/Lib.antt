@@ -1,0 +1,11 @@
+pub mod Words
+pub mod Digits
+pub mod NumberText
+pub mod LineText
+pub mod Growth
+pub mod NumberWord
+pub mod NumberReading
+pub mod NumberGrammar
+pub mod NumberValue
+pub mod LineReading
+pub mod Laws

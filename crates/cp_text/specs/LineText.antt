@@ -1,0 +1,73 @@
+-- Crease lines and patterns as text.
+use Rattle.std.specs.Prelude.{ℕ, List, [], ◌∷◌, ◌++◌, map, flat_map}
+use Rattle.surd_number.specs.declared.Surd.{Surd}
+use Rattle.surd_number.specs.Value.{number_of}
+use Rattle.plane_geometry.specs.declared.Point.{Point}
+use Rattle.plane_geometry.specs.declared.Segment.{Segment}
+use Rattle.plane_geometry.specs.SegmentView.{lesser_end, greater_end}
+use Rattle.crease_model.specs.declared.Kind.{Kind}
+use Rattle.crease_model.specs.declared.Kind.TheVariants.{Edge, Mountain, Valley, Aux}
+use Rattle.crease_model.specs.declared.Piece.{Piece}
+use Rattle.crease_model.specs.View.{PatternView}
+use Rattle.cp_text.specs.declared.line.CpLine.{CpLine}
+use Rattle.cp_text.specs.NumberText.{number_text}
+
+-- the digit of a kind
+abbrev pub kind_digit : Kind → ℕ
+kind_digit Edge = 49
+kind_digit Mountain = 50
+kind_digit Valley = 51
+kind_digit Aux = 52
+
+-- a space and a number
+abbrev pub coordinate_text : Surd → List ℕ
+coordinate_text n = 32 ∷ number_text (number_of n)
+
+abbrev pub point_text : Point → List ℕ
+point_text p = coordinate_text p.x ++ coordinate_text p.y
+
+-- the digit of the kind and the four coordinates, parted by single spaces
+abbrev pub line_body : CpLine → List ℕ
+line_body line = kind_digit line.kind ∷ point_text line.from ++ point_text line.to
+
+-- with the line feed at its end
+unfoldable pub line_text : CpLine → List ℕ
+line_text line = line_body line ++ 10 ∷ []
+
+abbrev pub line_between : Kind → Point → Point → CpLine
+line_between kind from to = record { kind = kind; from = from; to = to }
+
+-- each corner with the next, and the last with the first
+abbrev pub side_lines_from : Point → List Point → List CpLine
+side_lines_from first [] = []
+side_lines_from first (p ∷ []) = line_between Edge p first ∷ []
+side_lines_from first (p ∷ q ∷ ps) = line_between Edge p q ∷ side_lines_from first (q ∷ ps)
+
+-- the sides from these last corners of a sheet on
+abbrev pub rest_sides : List Point → List Point → List CpLine
+rest_sides [] last = []
+rest_sides (first ∷ ps) last = side_lines_from first last
+
+-- the sides of a sheet, counterclockwise from its least corner
+abbrev pub side_lines : List Point → List CpLine
+side_lines corners = rest_sides corners corners
+
+-- from the lesser end to the greater
+abbrev pub segment_line : Kind → Segment → CpLine
+segment_line kind s = line_between kind (lesser_end s) (greater_end s)
+
+abbrev pub piece_line : Piece → CpLine
+piece_line p = segment_line p.kind p.segment
+
+abbrev pub auxiliary_line : Segment → CpLine
+auxiliary_line s = segment_line Aux s
+
+-- the sides of the sheet, the pieces and the auxiliary lines, each in order
+abbrev pub pattern_lines : PatternView → List CpLine
+pattern_lines p = side_lines p.corners ++ map piece_line p.pieces ++ map auxiliary_line p.aux
+
+abbrev pub lines_text : List CpLine → List ℕ
+lines_text lines = flat_map line_text lines
+
+abbrev pub pattern_text : PatternView → List ℕ
+pattern_text p = lines_text (pattern_lines p)

@@ -1,0 +1,37 @@
+//! What is written reads as what it was written from. These functions do nothing: each contract is a law of the text.
+
+ghost use Rattle.cp_text.specs.NumberGrammar.{ReadsByTheGrammar};
+ghost use Rattle.cp_text.specs.NumberValue.{ReadsTheValue};
+ghost use Rattle.cp_text.specs.Laws.{NumbersReadBack, LinesReadBack, PatternsReadBack};
+
+/// Reading the text of a number gives that number.
+#[tactic(auto, using(crate::proofs::ReadBack::numbers_read_back))]
+pub fn numbers_read_back()
+    ensures { NumbersReadBack }
+{}
+
+/// Reading the text of a line without its line feed gives that line.
+#[tactic(auto, using(crate::proofs::ReadBack::lines_read_back))]
+pub fn lines_read_back()
+    ensures { LinesReadBack }
+{}
+
+/// Reading the text of a pattern line by line gives the sides of its sheet, its pieces and its auxiliary lines.
+#[tactic(auto, using(crate::proofs::ReadBack::patterns_read_back))]
+pub fn patterns_read_back()
+    ensures { PatternsReadBack }
+{}
+
+/// A text of one of the grammar's forms reads as the value of its parts, exponent notation is not exact, and any other
+/// text is bad.
+#[tactic(auto, using(crate::proofs::Grammar::reads_by_the_grammar))]
+pub fn reads_by_the_grammar()
+    ensures { ReadsByTheGrammar }
+{}
+
+/// A decimal is exact where its digits over their power of ten are a whole number of parts of 2^16, and the answer is
+/// then the number of both parts, or `OutOfRange` exactly where there is none.
+#[tactic(auto, using(crate::proofs::DecimalValues::reads_the_value))]
+pub fn reads_the_value()
+    ensures { ReadsTheValue }
+{}
