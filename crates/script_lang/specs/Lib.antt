@@ -1,0 +1,3 @@
+pub mod Judged
+pub mod Script
+pub mod Replies
