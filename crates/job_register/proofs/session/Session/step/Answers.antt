@@ -1,0 +1,32 @@
+use Rattle.std.proofs.Common.{rules, ◌≡◌, ◌++◌, ◌∷◌, [], sym, ap, subst, ◌∙◌}
+use Rattle.job_register.specs.declared.session.Event.TheVariants.{Made}
+use Rattle.job_register.specs.View.{events_of}
+use Rattle.job_register.specs.Machine.{answer}
+use Rattle.job_register.specs.Legal.{IsLegal, state_after}
+use Rattle.job_register.specs.Text.{text_of, reply_text}
+use Rattle.job_register.specs.Kept.{Keeps}
+use Rattle.job_register.proofs.Records.{step}
+use Rattle.job_register.proofs.session.Session.step.Goals as goal
+
+pub invariant_of-self-2 : goal.invariant_of-self-2
+invariant_of-self-2 c =
+    let s = step c.self.inside.record.list.items c.self.inside.journal c.answer_command.new.journal c.args.command c.in_ok-reply.reply c.self.inside.refused c.self.invariant c.in_ok-reply.ensures.ok in
+    let pushed : c.push.new.self.items ≡ c.self.inside.record.list.items ++ Made c.args.command c.in_ok-reply.reply ∷ [] = search rules in
+    rw (pushed, c.refused_after-self-inside.ensures, c.self.invariant.refused_is) s.kept
+
+pub returns-clause-reply : goal.returns-clause-reply
+returns-clause-reply c =
+    let s = step c.self.inside.record.list.items c.self.inside.journal c.answer_command.new.journal c.args.command c.in_ok-reply.reply c.self.inside.refused c.self.invariant c.in_ok-reply.ensures.ok in
+    s.told ∙ ap (λ es. (answer (state_after es) c.args.command).reply) c.self.view_is
+
+pub returns-clause-legal : goal.returns-clause-legal
+returns-clause-legal c =
+    let s = step c.self.inside.record.list.items c.self.inside.journal c.answer_command.new.journal c.args.command c.in_ok-reply.reply c.self.inside.refused c.self.invariant c.in_ok-reply.ensures.ok in
+    let pushed : c.push.new.self.items ≡ c.self.inside.record.list.items ++ Made c.args.command c.in_ok-reply.reply ∷ [] = search rules in
+    rw pushed s.kept.legal
+
+pub returns-clause-text : goal.returns-clause-text
+returns-clause-text c =
+    let s = step c.self.inside.record.list.items c.self.inside.journal c.answer_command.new.journal c.args.command c.in_ok-reply.reply c.self.inside.refused c.self.invariant c.in_ok-reply.ensures.ok in
+    let pushed : c.push.new.self.items ≡ c.self.inside.record.list.items ++ Made c.args.command c.in_ok-reply.reply ∷ [] = search rules in
+    rw (pushed, ← c.self.view_is) s.text

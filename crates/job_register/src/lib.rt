@@ -1,0 +1,9 @@
+//! The session: it answers one command after another, and keeps the record of commands and replies.
+#![tactic(auto)]
+
+mod answering;
+mod laws;
+mod session;
+
+pub use laws::{legal_records_are_replayed, rows_are_computed};
+pub use session::{Event, Record, Session};
