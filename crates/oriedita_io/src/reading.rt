@@ -1,0 +1,93 @@
+//! Reading from a source, to its end or up to a number of bytes.
+ghost use Rattle.std.specs.Prelude.{◌≡◌, ℕ, ◌+◌, ◌≤◌, ◌↔◌, List, length, vec_len, IfOk, OnErr, Option};
+ghost use Rattle.std.specs.Io.KnownBytes.{Consumes, IsAtEnd, ReadConsumes};
+ghost use Rattle.oriedita_io.specs.Faults.{Rose};
+
+use super::Failed;
+use std::alloc::{AllocError, Global};
+
+/// The bytes that one read of [`read_all`] asks for at most.
+const CHUNK: usize = 4096;
+
+/// Where bytes come from.
+pub trait Source {
+    // The faults so far. The count stands still at the last `u64`.
+    ghost faults: { Self → ℕ };
+
+    // The bytes still to come, where the source tells them.
+    ghost left: { Self → Option (List ℕ) };
+
+    /// Reads bytes into the front of `into`, and answers how many. It reads none of them only into an
+    /// empty slice or at the end.
+    fn read(&mut self, into: &mut [u8]) -> Result<usize, Failed>
+        ensures bound { IfOk result (λ n. n ≤ length into.new) }
+        ensures bytes { ReadConsumes (left self.old) (left self.new) result into.new }
+        ensures faults_stay { faults self.old ≤ faults self.new }
+        ensures cause { OnErr result (Rose (faults self.old) (faults self.new)) };
+}
+
+/// Why [`read_all`] stopped.
+#[derive(Clone, Copy, Debug, PartialEq, Eq)]
+pub enum InputEnd {
+    /// The source had no more bytes.
+    Ended,
+    /// A read failed.
+    Failed,
+    /// More bytes came than were asked for.
+    More,
+}
+
+/// What was read from a source, and why the reading stopped.
+#[derive(Debug, Drop)]
+pub struct Input {
+    pub bytes: Vec<u8>,
+    pub end: InputEnd,
+}
+
+/// Reads `source` to its end, or until more than `most` bytes came or a read failed. Each turn reads a byte
+/// or more, and never more than `most` + 1 in all. It fails only where there is no memory for the bytes.
+pub fn read_all<S: Source>(alloc: Global, source: &mut S, most: usize) -> Result<Input, AllocError>
+    requires { most ≤ 4_194_304 }
+
+    // The source lost exactly the bytes that are answered; without memory those that came are lost.
+    ensures bytes { IfOk result (λ input.
+        Consumes (S.left source.old) (S.left source.new) input.bytes.items) }
+    ensures lost { OnErr result ((bytes : List ℕ) × (length bytes ≤ most + 1)
+        × Consumes (S.left source.old) (S.left source.new) bytes) }
+
+    // More is answered exactly where more than `most` bytes came, and then for the first `most` + 1.
+    ensures size { IfOk result (λ input. vec_len input.bytes ≤ most + 1) }
+    ensures more { IfOk result (λ input.
+        (input.end ≡ InputEnd.More) ↔ (vec_len input.bytes ≡ most + 1)) }
+
+    // Ended is answered only at the end, and Failed only at a fault.
+    ensures ended { IfOk result (λ input. input.end ≡ InputEnd.Ended → IsAtEnd (S.left source.new)) }
+    ensures cause { IfOk result (λ input.
+        input.end ≡ InputEnd.Failed → Rose (S.faults source.old) (S.faults source.new)) }
+    ensures faults_stay { S.faults source.old ≤ S.faults source.new }
+{
+    let mut bytes = Vec::new(alloc);
+    let mut chunk = [0u8; CHUNK];
+    while bytes.len() <= most {
+        let wanted = CHUNK.min(most + 1 - bytes.len());
+        match source.read(&mut chunk[..wanted]) {
+            Ok(0) => {
+                return Ok(Input {
+                    bytes,
+                    end: InputEnd::Ended,
+                });
+            }
+            Ok(count) => bytes.extend_from_slice(&chunk[..count])?,
+            Err(Failed) => {
+                return Ok(Input {
+                    bytes,
+                    end: InputEnd::Failed,
+                });
+            }
+        }
+    }
+    Ok(Input {
+        bytes,
+        end: InputEnd::More,
+    })
+}

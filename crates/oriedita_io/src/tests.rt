@@ -1,0 +1,116 @@
+ghost use Rattle.std.specs.Prelude.{◌≤◌};
+
+use super::*;
+use std::alloc::{AllocError, Global};
+use std::test::Fail;
+
+// The bytes of a source, the most that a read of it gives, the reads that fail, and how many bytes are asked
+// for; then the bytes that are read, and why the reading stops.
+type Reading = (
+    &'static [u8],
+    usize,
+    &'static [u64],
+    usize,
+    &'static [u8],
+    InputEnd,
+);
+
+const READINGS: [Reading; 7] = [
+    (b"abc", 1, &[2], 9, b"a", InputEnd::Failed),
+    (b"abc", 9, &[1], 9, b"", InputEnd::Failed),
+    (b"abc", 1, &[5], 9, b"abc", InputEnd::Ended),
+    (b"abc", 2, &[], 3, b"abc", InputEnd::Ended),
+    (b"abc", 2, &[], 2, b"abc", InputEnd::More),
+    (b"abcde", 2, &[], 2, b"abc", InputEnd::More),
+    (b"", 1, &[], 0, b"", InputEnd::Ended),
+];
+
+fn source(
+    alloc: Global,
+    bytes: &[u8],
+    most: usize,
+    failing: &[u64],
+) -> Result<MemSource, AllocError>
+    requires { 1 ≤ most }
+{
+    let bytes = bytes.to_vec(alloc)?;
+    Ok(MemSource::new(bytes, most, failing.to_vec(alloc)?))
+}
+
+#[test]
+fn reads_to_the_end_the_limit_or_a_fault(rt: HostRuntime) -> Result<(), Fail> {
+    for (bytes, most_a_read, failing, most, read, end) in READINGS {
+        assert!(rt; most_a_read >= 1 && most <= 9);
+        let mut source = source(rt.alloc(), bytes, most_a_read, failing)?;
+        let input = read_all(rt.alloc(), &mut source, most)?;
+        assert_eq!(rt; input.end, end);
+        assert_eq!(rt; input.bytes.as_slice(), read);
+    }
+    Ok(())
+}
+
+// The most that a write takes, the room of the sink, the calls that fail, and the bytes to write; then whether
+// all are written, the bytes that the sink took, and whether it is finished by the finish that follows.
+type Writing = (
+    usize,
+    usize,
+    &'static [u64],
+    &'static [u8],
+    Result<(), Failed>,
+    &'static [u8],
+    bool,
+);
+
+const WRITINGS: [Writing; 6] = [
+    (2, 9, &[], b"abcde", Ok(()), b"abcde", true),
+    (2, 3, &[], b"abcd", Err(Failed), b"abc", true),
+    (2, 9, &[2], b"abcde", Err(Failed), b"ab", true),
+    (2, 9, &[3], b"abc", Ok(()), b"abc", false),
+    (9, 0, &[1], b"", Ok(()), b"", false),
+    (1, 0, &[], b"a", Err(Failed), b"", true),
+];
+
+// Writes the bytes, whatever comes of it, and then finishes.
+#[test]
+fn writes_all_or_a_part_and_finishes(rt: HostRuntime) -> Result<(), Fail> {
+    for (most_a_write, room, failing, bytes, written, taken, finished) in WRITINGS {
+        assert!(rt; most_a_write >= 1);
+        let failing = failing.to_vec(rt.alloc())?;
+        let mut sink = MemSink::new(rt.alloc(), most_a_write, room, failing)?;
+        assert_eq!(rt; write_all(&mut sink, bytes), written);
+        assert_eq!(rt; sink.bytes(), taken);
+        assert!(rt; !sink.finished());
+        assert_eq!(rt; sink.finish().is_ok(), finished);
+        assert_eq!(rt; sink.finished(), finished);
+    }
+    Ok(())
+}
+
+#[test]
+fn a_write_after_the_finish_takes_it_back(rt: HostRuntime) -> Result<(), Fail> {
+    let mut sink = MemSink::new(rt.alloc(), 1, 1, Vec::new(rt.alloc()))?;
+    assert!(rt; sink.finish().is_ok() && sink.finished());
+    assert_eq!(rt; sink.write(b""), Ok(0));
+    assert!(rt; sink.finished());
+    assert_eq!(rt; sink.write(b"a"), Ok(1));
+    assert!(rt; !sink.finished());
+    Ok(())
+}
+
+#[test]
+fn readers_and_writers_pass_bytes_on(rt: HostRuntime) -> Result<(), Fail> {
+    let mut source = StdinSource::new(&b"abc"[..]);
+    let input = read_all(rt.alloc(), &mut source, 3)?;
+    assert_eq!(rt; input.end, InputEnd::Ended);
+    let mut written = [0; 3];
+    let mut sink = StdoutSink::new(&mut written[..]);
+    assert_eq!(rt; write_all(&mut sink, input.bytes.as_slice()), Ok(()));
+    assert_eq!(rt; sink.write(b"d"), Err(Failed), "no byte is written of one");
+    assert_eq!(rt; sink.finish(), Ok(()));
+    assert_eq!(rt; written, [b'a', b'b', b'c']);
+    assert_eq!(rt;
+        format!(in rt.alloc(); "{Failed}")?.as_str(),
+        "the object failed"
+    );
+    Ok(())
+}
