@@ -1,0 +1,77 @@
+-- How runs of commands join, where all are served and where the last one stops.
+use Rattle.std.proofs.Common.{◌≡◌, ℕ, ◌+◌, ◌<◌, length, get_or, List, [], ◌∷◌, ◌++◌, Option, take, drop, refl, sym, ap, ◌∙◌, append_assoc, subst}
+use Rattle.std.proofs.lemmas.List.{append-nil, take-append-drop, take_more}
+use Rattle.std.specs.Io.KnownBytes.{Appends}
+use Rattle.std.proofs.KnownBytes.{Appends-nil, Appends-trans}
+use Rattle.script_lang.specs.declared.command.Command.{Command}
+use Rattle.job_register.specs.declared.session.Event.{Event}
+use Rattle.job_register.specs.Legal.{commands_in}
+use Rattle.job_register.specs.Text.{text_of}
+use Rattle.oriedita_cli.specs.Serving.{Serves, StopsIn}
+
+-- before the first command
+pub stops_at_once : (es : List Event) (taken : Option (List ℕ)) (commands : List Command) → StopsIn es es taken taken commands
+stops_at_once es taken commands = record {
+  ran = [];
+  left = commands;
+  front = refl;
+  commands_are = sym (append-nil (commands_in es));
+  text = [];
+  unwritten = [];
+  text_is = sym (append-nil (text_of es));
+  written = Appends-nil taken;
+}
+
+-- while the text of a command is written
+pub stops_in_text : (old new : List Event) (taken taken' : Option (List ℕ)) (command : Command) (text : List ℕ) (count : ℕ)
+    → commands_in new ≡ commands_in old ++ command ∷ [] → text_of new ≡ text_of old ++ text → Appends taken taken' (take count text)
+    → StopsIn old new taken taken' (command ∷ [])
+stops_in_text old new taken taken' command text count ran told written = record {
+  ran = command ∷ [];
+  left = [];
+  front = refl;
+  commands_are = ran;
+  text = take count text;
+  unwritten = drop count text;
+  text_is = told ∙ ap (λ xs. text_of old ++ xs) (sym (take-append-drop count text));
+  written = written;
+}
+
+-- none yet
+pub serves_none : (es : List Event) (taken : Option (List ℕ)) → Serves es es taken taken []
+serves_none es taken = record {
+  commands_are = sym (append-nil (commands_in es));
+  text = [];
+  text_is = sym (append-nil (text_of es));
+  written = Appends-nil taken;
+}
+
+pub serves_both : (es fs gs : List Event) (t u v : Option (List ℕ)) (commands more : List Command) → Serves es fs t u commands → Serves fs gs u v more → Serves es gs t v (commands ++ more)
+serves_both es fs gs t u v commands more first second = record {
+  commands_are = second.commands_are ∙ ap (λ xs. xs ++ more) first.commands_are ∙ append_assoc (commands_in es) commands more;
+  text = first.text ++ second.text;
+  text_is = second.text_is ∙ ap (λ xs. xs ++ second.text) first.text_is ∙ append_assoc (text_of es) first.text second.text;
+  written = Appends-trans t u v first.text second.text first.written second.written;
+}
+
+pub serves_then_stops : (es fs gs : List Event) (t u v : Option (List ℕ)) (commands more rest : List Command) → Serves es fs t u commands → StopsIn fs gs u v more → StopsIn es gs t v (commands ++ (more ++ rest))
+serves_then_stops es fs gs t u v commands more rest first second = record {
+  ran = commands ++ second.ran;
+  left = second.left ++ rest;
+  front = ap (λ xs. commands ++ (xs ++ rest)) second.front ∙ ap (λ xs. commands ++ xs) (append_assoc second.ran second.left rest) ∙ sym (append_assoc commands second.ran (second.left ++ rest));
+  commands_are = second.commands_are ∙ ap (λ xs. xs ++ second.ran) first.commands_are ∙ append_assoc (commands_in es) commands second.ran;
+  text = first.text ++ second.text;
+  unwritten = second.unwritten;
+  text_is = second.text_is ∙ ap (λ xs. xs ++ (second.text ++ second.unwritten)) first.text_is ∙ append_assoc (text_of es) first.text (second.text ++ second.unwritten) ∙ ap (λ xs. text_of es ++ xs) (sym (append_assoc first.text second.text second.unwritten));
+  written = Appends-trans t u v first.text second.text first.written second.written;
+}
+
+-- the commands up to one, that one, and the rest
+pub one_more : (xs : List Command) (i : ℕ) (x : Command) → i < length xs → x ≡ get_or xs i x → take (i + 1) xs ≡ take i xs ++ x ∷ []
+one_more xs i x h e = take_more xs i x h ∙ ap (λ y. take i xs ++ y ∷ []) (sym e)
+
+pub around_one : (xs : List Command) (i : ℕ) (x : Command) → i < length xs → x ≡ get_or xs i x → xs ≡ take i xs ++ (x ∷ [] ++ drop (i + 1) xs)
+around_one xs i x h e =
+    sym (take-append-drop (i + 1) xs)
+    ∙ ap (λ ys. ys ++ drop (i + 1) xs) (one_more xs i x h e)
+    ∙ append_assoc (take i xs) (x ∷ []) (drop (i + 1) xs)

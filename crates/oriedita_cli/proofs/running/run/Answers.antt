@@ -1,0 +1,14 @@
+use Rattle.std.proofs.Common.{arith, inr, ◌≡◌}
+use Rattle.oriedita_cli.proofs.Unanswered.{none_read}
+use Rattle.oriedita_cli.proofs.running.run.Goals as goal
+
+pub returns-in-Err-clause-input : goal.returns-in-Err-clause-input
+returns-in-Err-clause-input g c =
+    let lost = c.in-Err.ensures.lost in
+    let status : c.ended_without-in-Err.result.status ≡ 6 = c.ended_without-in-Err.ensures.status in (
+      lost.0,
+      lost.2,
+      none_read c.ended_without-in-Err.result.status c.ended_without-in-Err.result.events.list.items lost.0 (omega (arith, status)) c.ended_without-in-Err.ensures.events
+          (λ five. absurd (omega (arith, five, status)))
+          (λ _. inr status),
+    )

@@ -1,0 +1,46 @@
+-- The clauses of the top call, by its exit status.
+use Rattle.std.specs.Prelude.{◌≡◌, ℕ, ◌<◌, ◌⊎◌, Bool, true, List, [], ◌++◌, Option, length, if◌then◌else◌}
+use Rattle.std.specs.Io.KnownBytes.{Appends, Keeps}
+use Rattle.oriedita_io.specs.Told.{Tells}
+use Rattle.script_lang.specs.declared.command.Command.{Command}
+use Rattle.script_lang.specs.Script.{commands_of}
+use Rattle.job_register.specs.declared.session.Event.{Event}
+use Rattle.job_register.specs.Legal.{commands_in, has_refusal}
+use Rattle.job_register.specs.Text.{text_of}
+
+-- the most bytes that a script has
+abbrev pub script_limit : ℕ
+script_limit = 4194304
+
+-- one list begins with another
+abbrev pub IsFront : {A : Type 0} → List A → List A → Type 0
+IsFront {A} front whole = (rest : List A) × (whole ≡ front ++ rest)
+
+-- A record of these commands: all of them at 0 and 1, else the first few.
+pub record IsAnswered (status : ℕ) (events : List Event) (commands : List Command) : Type 0 where
+  pub all : status < 2 → commands_in events ≡ commands
+  pub front : IsFront (commands_in events) commands
+
+-- The input clause, for the bytes that the script lost.
+pub record IsInput (status : ℕ) (events : List Event) (bytes : List ℕ) : Type 0 where
+  -- the commands of the record are those of the bytes, in order: all of them at 0 and 1, else the first few
+  pub commands : IsAnswered status events (commands_of bytes)
+  -- none at 2, 3 and 5
+  pub none : (status ≡ 2) ⊎ ((status ≡ 3) ⊎ (status ≡ 5)) → events ≡ []
+  -- 5 is answered only to too long a script, and to such a script nothing else is, unless memory is refused
+  pub long : status ≡ 5 → script_limit < length bytes
+  pub too_long : script_limit < length bytes → (status ≡ 5) ⊎ (status ≡ 6)
+
+-- The output clause, for the bytes that the sink took.
+pub record IsOutput (status : ℕ) (events : List Event) (taken taken' : Option (List ℕ)) (finished' : Option Bool) : Type 0 where
+  -- at 0, 1 and 3 the whole text of the record is written, and the sink is finished
+  pub whole : (status < 2) ⊎ (status ≡ 3) → Appends taken taken' (text_of events)
+  pub finished : (status < 2) ⊎ (status ≡ 3) → Tells finished' true
+  -- the front of the text is written in any case
+  pub front : (text : List ℕ) × IsFront text (text_of events) × Appends taken taken' text
+  -- and nothing at 2 and 5
+  pub none : (status ≡ 2) ⊎ (status ≡ 5) → Keeps taken taken'
+
+-- The statuses of a run that came to its end: 0 where no reply is a refusal, and 1 where one is.
+abbrev pub ended_status : List Event → ℕ
+ended_status events = if has_refusal events then 1 else 0

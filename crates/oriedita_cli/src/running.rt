@@ -1,0 +1,190 @@
+//! The top call.
+
+ghost use Rattle.std.specs.Prelude.{◌≡◌, ℕ, ◌<◌, ◌≤◌, ◌↔◌, ◌⊎◌, ◌≢◌, List, [], length, true};
+ghost use Rattle.std.specs.Io.KnownBytes.{Consumes, IsAtEnd, Keeps};
+ghost use Rattle.oriedita_io.specs.Faults.{Rose};
+ghost use Rattle.oriedita_io.specs.Told.{Tells};
+ghost use Rattle.script_lang.specs.Script.{commands_of};
+ghost use Rattle.job_register.specs.View.{events_of};
+ghost use Rattle.job_register.specs.Legal.{IsLegal, has_refusal};
+ghost use Rattle.oriedita_cli.specs.Clauses.{IsAnswered, IsInput, IsOutput, ended_status, script_limit};
+
+use crate::serving::{Stop, serve_all};
+use job_register::{Record, Session};
+use oriedita_io::{Failed, Input, InputEnd, Sink, Source, read_all};
+use script_lang::{Command, read_script};
+use std::alloc::{AllocError, Global};
+
+/// The exit status of a run, and its record.
+#[derive(Drop)]
+pub struct Ended {
+    pub status: u8,
+    pub events: Record,
+}
+
+/// Every line was accepted.
+pub const ACCEPTED: u8 = 0;
+/// Some reply is a refusal.
+pub const REFUSED: u8 = 1;
+/// The words of the command line are refused.
+pub const BAD_WORDS: u8 = 2;
+/// A read failed.
+pub const READ_FAILED: u8 = 3;
+/// A write failed, or the finishing of the output.
+pub const WRITE_FAILED: u8 = 4;
+/// The script is too long.
+pub const TOO_LONG: u8 = 5;
+/// Memory was refused.
+pub const NO_MEMORY: u8 = 6;
+
+/// The most bytes that a script has.
+const LONGEST: usize = 4_194_304;
+
+fn ended_without(alloc: Global, status: u8) -> Ended
+    ensures status { result.status ≡ status }
+    ensures events { events_of result.events ≡ [] }
+{
+    Ended {
+        status,
+        events: Record::new(alloc),
+    }
+}
+
+// The end of a run whose commands were all answered, and their replies written.
+fn finish<K: Sink>(session: Session, out: &mut K) -> Ended
+    ensures events { events_of result.events ≡ session }
+    ensures legal { IsLegal session }
+    ensures bytes { Keeps (K.taken out.old) (K.taken out.new) }
+    ensures status { (result.status ≡ ended_status session) ⊎ (result.status ≡ WRITE_FAILED) }
+    ensures finished { result.status < 2 → Tells (K.finished out.new) true }
+    ensures cause { result.status ≡ WRITE_FAILED → Rose (K.faults out.old) (K.faults out.new) }
+    ensures faults_stay { K.faults out.old ≤ K.faults out.new }
+{
+    let status = if session.has_refusal() {
+        REFUSED
+    } else {
+        ACCEPTED
+    };
+    match out.finish() {
+        Ok(()) => Ended {
+            status,
+            events: session.finish(),
+        },
+        Err(Failed) => Ended {
+            status: WRITE_FAILED,
+            events: session.finish(),
+        },
+    }
+}
+
+// Answers the commands in a new session, and writes the replies.
+fn run_commands<K: Sink>(alloc: Global, commands: &[Command], out: &mut K) -> Ended
+    ensures legal { IsLegal (events_of result.events) }
+    ensures input { IsAnswered result.status (events_of result.events) commands.now }
+    ensures output { IsOutput result.status (events_of result.events) (K.taken out.old) (K.taken out.new) (K.finished out.new) }
+    ensures status { (result.status ≡ ended_status (events_of result.events)) ⊎ ((result.status ≡ WRITE_FAILED) ⊎ (result.status ≡ NO_MEMORY)) }
+    ensures cause { result.status ≡ WRITE_FAILED → Rose (K.faults out.old) (K.faults out.new) }
+    ensures faults_stay { K.faults out.old ≤ K.faults out.new }
+{
+    let Ok(mut session) = Session::open(alloc) else {
+        return ended_without(alloc, NO_MEMORY);
+    };
+    match serve_all(alloc, &mut session, commands, out) {
+        Ok(()) => finish(session, out),
+        Err(Stop::Write) => Ended {
+            status: WRITE_FAILED,
+            events: session.finish(),
+        },
+        Err(Stop::Memory) => Ended {
+            status: NO_MEMORY,
+            events: session.finish(),
+        },
+    }
+}
+
+// A read fault before the end: no command is run, and the output is finished.
+fn run_nothing<K: Sink>(alloc: Global, out: &mut K) -> Ended
+    ensures events { events_of result.events ≡ [] }
+    ensures bytes { Keeps (K.taken out.old) (K.taken out.new) }
+    ensures status { (result.status ≡ READ_FAILED) ⊎ (result.status ≡ WRITE_FAILED) }
+    ensures finished { result.status ≡ READ_FAILED → Tells (K.finished out.new) true }
+    ensures cause { result.status ≡ WRITE_FAILED → Rose (K.faults out.old) (K.faults out.new) }
+    ensures faults_stay { K.faults out.old ≤ K.faults out.new }
+{
+    match out.finish() {
+        Ok(()) => ended_without(alloc, READ_FAILED),
+        Err(Failed) => ended_without(alloc, WRITE_FAILED),
+    }
+}
+
+fn run_bytes<K: Sink>(alloc: Global, bytes: &[u8], out: &mut K) -> Ended
+    ensures legal { IsLegal (events_of result.events) }
+    ensures input { IsAnswered result.status (events_of result.events) (commands_of bytes.now) }
+    ensures output { IsOutput result.status (events_of result.events) (K.taken out.old) (K.taken out.new) (K.finished out.new) }
+    ensures status { (result.status ≡ ended_status (events_of result.events)) ⊎ ((result.status ≡ WRITE_FAILED) ⊎ (result.status ≡ NO_MEMORY)) }
+    ensures cause { result.status ≡ WRITE_FAILED → Rose (K.faults out.old) (K.faults out.new) }
+    ensures faults_stay { K.faults out.old ≤ K.faults out.new }
+{
+    match read_script(alloc, bytes) {
+        Ok(commands) => run_commands(alloc, commands.as_slice(), out),
+        Err(_) => ended_without(alloc, NO_MEMORY),
+    }
+}
+
+fn run_input<K: Sink>(alloc: Global, input: &Input, out: &mut K) -> Ended
+    requires { (input.now.end ≡ InputEnd.More) ↔ (script_limit < length input.now.bytes.items) }
+    ensures legal { IsLegal (events_of result.events) }
+    ensures input { IsInput result.status (events_of result.events) input.now.bytes.items }
+    ensures ended { result.status < 2 → input.now.end ≡ InputEnd.Ended }
+    ensures failed { result.status ≡ READ_FAILED → input.now.end ≡ InputEnd.Failed }
+    ensures output { IsOutput result.status (events_of result.events) (K.taken out.old) (K.taken out.new) (K.finished out.new) }
+    ensures refusals { result.status < 2 → result.status ≡ ended_status (events_of result.events) }
+    ensures status { result.status ≤ 6 }
+    ensures words { result.status ≢ BAD_WORDS }
+    ensures cause { result.status ≡ WRITE_FAILED → Rose (K.faults out.old) (K.faults out.new) }
+    ensures faults_stay { K.faults out.old ≤ K.faults out.new }
+{
+    match input.end {
+        InputEnd::Ended => run_bytes(alloc, input.bytes.as_slice(), out),
+        InputEnd::Failed => run_nothing(alloc, out),
+        InputEnd::More => ended_without(alloc, TOO_LONG),
+    }
+}
+
+/// Reads the whole script, answers its commands one after another and writes the text of each reply; then finishes the
+/// output. The status says how it ended, and the record what was answered.
+pub fn run<S: Source, K: Sink>(
+    alloc: Global,
+    words: &[String],
+    script: &mut S,
+    out: &mut K,
+) -> Ended
+    // The record clause.
+    ensures legal { IsLegal (events_of result.events) }
+
+    // The input clause.
+    ensures input { (bytes : List ℕ) × Consumes (S.left script.old) (S.left script.new) bytes
+        × IsInput result.status (events_of result.events) bytes }
+    ensures read_to_its_end { result.status < 2 → IsAtEnd (S.left script.new) }
+
+    // The output clause.
+    ensures output { IsOutput result.status (events_of result.events) (K.taken out.old) (K.taken out.new) (K.finished out.new) }
+
+    // The status clause.
+    ensures status { result.status ≤ 6 }
+    ensures refusals { result.status < 2 → result.status ≡ ended_status (events_of result.events) }
+    ensures bad_words { (result.status ≡ BAD_WORDS) ↔ (0 < length words.now) }
+    ensures untouched { result.status ≡ BAD_WORDS → (script.new ≡ script.old) × (out.new ≡ out.old) }
+    ensures read_fault { result.status ≡ READ_FAILED → Rose (S.faults script.old) (S.faults script.new) }
+    ensures write_fault { result.status ≡ WRITE_FAILED → Rose (K.faults out.old) (K.faults out.new) }
+    ensures source_faults_stay { S.faults script.old ≤ S.faults script.new }
+    ensures sink_faults_stay { K.faults out.old ≤ K.faults out.new }
+{
+    if !words.is_empty() {
+        return ended_without(alloc, BAD_WORDS);
+    }
+    match read_all(alloc, script, LONGEST) {
+        Ok(input) => run_input(alloc, &input, out),
+        Err(_) => ended_without(alloc, NO_MEMORY),
+    }
+}
