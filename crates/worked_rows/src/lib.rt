@@ -1,0 +1,16 @@
+//! Whole runs of the editor, from the bytes of a script to the bytes of its replies, against tables worked by hand. It
+//! holds tests alone.
+#![tactic(auto)]
+
+#[cfg(test)]
+mod creases;
+#[cfg(test)]
+mod faults;
+#[cfg(test)]
+mod limits;
+#[cfg(test)]
+mod lines;
+#[cfg(test)]
+mod rows;
+#[cfg(test)]
+mod runs;
