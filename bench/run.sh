@@ -1,0 +1,83 @@
+#!/usr/bin/env bash
+# Measures the exact numbers against plain Rust, and the reading of script text against `wc -w`. Its word is the number
+# of rounds (12000 where there is none). Times are processor times, the best of five.
+cd "$(dirname "$0")" || exit 1
+rounds="${1:-12000}"
+times=5
+TIMEFORMAT='%U %S'
+proved=../crates/bench_numbers/out/bench_numbers
+editor=../crates/oriedita/out/oriedita
+folder="$(mktemp -d /tmp/bench.XXXXXX)" || exit 1
+trap 'rm -rf "$folder"' EXIT
+
+# seconds FILE WORD..: the processor time of the words with the file as input.
+seconds() {
+    local input="$1"
+    shift
+    { time "$@" <"$input" >/dev/null 2>&1; } 2>&1 | awk '{ printf "%.3f\n", $1 + $2 }'
+}
+
+# race FILE FIRST SECOND: runs both in turn, and prints the best time of each.
+race() {
+    local _
+    for _ in $(seq "$times"); do
+        # shellcheck disable=SC2086
+        echo "$(seconds "$1" $2) $(seconds "$1" $3)"
+    done | awk 'NR == 1 { a = $1; b = $2 } { if ($1 < a) a = $1; if ($2 < b) b = $2 } END { print a, b }'
+}
+
+# Stops unless both programs print the same checksum.
+same_checksums() {
+    local count ours theirs
+    for count in 1 3 "$rounds"; do
+        ours=$("$proved" "$count")
+        theirs=$("$folder/numbers" "$count")
+        if [ -z "$ours" ] || [ "$ours" != "$theirs" ]; then
+            echo "the checksums of $count rounds differ: '$ours' and '$theirs'"
+            exit 1
+        fi
+    done
+    echo "checksum   $ours"
+}
+
+numbers() {
+    echo "== exact numbers, $rounds rounds"
+    (cd ../crates/bench_numbers && rt run -- 1) >"$folder/log" 2>&1 || { cat "$folder/log"; exit 1; }
+    rustc -O --edition 2024 -o "$folder/numbers" numbers.rs || exit 1
+    same_checksums
+    race /dev/null "$proved $rounds" "$folder/numbers $rounds" | awk '{
+        printf "proved     %s s\nplain Rust %s s\nratio      %.2f\n", $1, $2, $1 / $2 }'
+}
+
+# script KIND: about four million bytes of lines that are read whole and refused. Those of the kind zerolength end where
+# they begin; those of the kind onborder lie within a side of the sheet, so their directions and sides are found too.
+script() {
+    awk -v kind="$1" 'BEGIN {
+        for (n = 0; n < 80000; n++) {
+            first = sprintf("-200.000 %d.%d+%d.25r2", n * 7 % 100, n % 8 * 125, n % 40)
+            last = sprintf("-200.0 -%d.0625+%d.25r2", n * 13 % 90, n % 40)
+            print 2 + n % 2, first, (kind == "zerolength" ? first : last)
+        }
+    }'
+}
+
+text() {
+    echo "== script text, refused as $1"
+    script "$1" >"$folder/script"
+    if "$editor" <"$folder/script" | grep -q -v -x "refused $1"; then
+        echo "some line of the script is answered otherwise"
+        exit 1
+    fi
+    local bytes
+    bytes=$(wc -c <"$folder/script")
+    race "$folder/script" "$editor" "wc -w" | awk -v bytes="$bytes" '{
+        printf "editor     %s s, %.0f bytes a second\nwc -w      %s s, %.0f bytes a second\n", $1, bytes / $1, $2, bytes / $2 }'
+}
+
+numbers
+if [ -x "$editor" ]; then
+    text zerolength
+    text onborder
+else
+    echo "script text is left out: the editor is not built yet (./oriedita builds it)"
+fi
