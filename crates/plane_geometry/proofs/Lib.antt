@@ -2,3 +2,4 @@ pub mod Wides
 pub mod Faults
 pub mod Offsets
 pub mod Meets
+pub mod CommonAnswer

@@ -108,7 +108,7 @@ on_line_same l p q e f h =
     let o = wide_number_of (line_offset l) in
     on_line_from_offset l p (IsSame-trans (cross_of d p) (cross_of d q) o (cross_same d p q e f) (on_line_offset l q h))
 
-is_point : (p : Point) → IsPoint (position_of p)
+pub is_point : (p : Point) → IsPoint (position_of p)
 is_point p = ((number_of p.x, p.x.stored, IsSame-refl (number_of p.x)), (number_of p.y, p.y.stored, IsSame-refl (number_of p.y)))
 
 module _ (l m : Line) (less : line_number l < line_number m) where

@@ -9,7 +9,7 @@ use Rattle.surd_number.specs.NumberLaws.{number_ring, number_ring_from}
 use Rattle.plane_geometry.specs.Position.{Position, vector_of, cross_of, dot_of, is_same_position}
 use Rattle.plane_geometry.specs.Direction.{direction_vector, side_of, is_positive, is_negative, is_zero}
 use Rattle.plane_geometry.specs.Stored.{IsStretch}
-use Rattle.plane_geometry.specs.Stretch.{Stretch, is_end, is_on, is_parted, is_crossing, is_touching, ends_at_ends, has_same_ends, meets_at_ends, is_overlapping, ShareAPoint, MeetAtEnds, ShareTwoPoints}
+use Rattle.plane_geometry.specs.Stretch.{Stretch, is_between, is_end, is_on, is_in_line, is_parted, is_crossing, is_touching, ends_at_ends, has_same_ends, meets_at_ends, is_overlapping, ShareAPoint, MeetAtEnds, ShareTwoPoints}
 use Rattle.surd_number.specs.SignLaws.{opposite_sign, times_sign, sign_of-same, sign_of-negative}
 use Rattle.plane_geometry.specs.SideLaws.{then_sign, may_sum, lex_sign, order_of, order_self, order_turned, order_chain, side_from, side_same, square_sign, along_lex, along_cross, turn_of, product_by_zero, product_by_pos}
 use Rattle.plane_geometry.specs.CrossLaws.{turn_inverse}
@@ -26,7 +26,8 @@ forward s h =
     sym (along_lex (direction_vector s.dir) (vector_of s.from s.to) (square_sign s.dir) (to_in_line s h) ∙ ap (λ t. times_sign t (lex_sign (direction_vector s.dir))) (along_sign s h))
     ∙ ends_order s h
 
-dot_is_order : (s : Stretch) (p q : Position) → IsStretch s → side_of p s.dir q ≡ Zero → sign_of (dot_of (direction_vector s.dir) (vector_of p q)) ≡ order_of p q
+-- along a stretch, one goes on where one goes to a greater point
+pub dot_is_order : (s : Stretch) (p q : Position) → IsStretch s → side_of p s.dir q ≡ Zero → sign_of (dot_of (direction_vector s.dir) (vector_of p q)) ≡ order_of p q
 dot_is_order s p q h e =
     sym (along_lex (direction_vector s.dir) (vector_of p q) (square_sign s.dir) e
     ∙ ap (times_sign (sign_of (dot_of (direction_vector s.dir) (vector_of p q)))) (forward s h)
@@ -172,6 +173,20 @@ pub record LiesBetween (p : Position) (s : Stretch) : Type 0 where
   pub in_line : side_of s.from s.dir p ≡ Zero
   pub after_from : order_of s.from p ≡ Pos
   pub before_to : order_of p s.to ≡ Pos
+
+pub between_parts : (p : Position) (s : Stretch) → is_between p s ≡ true → LiesBetween p s
+between_parts p s e =
+    let k = and_parts (is_in_line p s) _ e in
+    let l = and_parts _ _ k.1 in
+    record {
+      in_line = zero_is _ k.0;
+      after_from = positive_is _ (sym (before_is s.from p) ∙ l.0);
+      before_to = positive_is _ (sym (before_is p s.to) ∙ l.1);
+    }
+
+pub between_from_parts : (p : Position) (s : Stretch) → LiesBetween p s → is_between p s ≡ true
+between_from_parts p s b =
+    and_from (is_in_line p s) _ (ap is_zero b.in_line) (and_from _ _ (before_is s.from p ∙ ap is_positive b.after_from) (before_is p s.to ∙ ap is_positive b.before_to))
 
 pub between_lies : (p : Position) (s : Stretch) → LiesBetween p s → LiesOn p s
 between_lies p s b = record { in_line = b.in_line; after_from = not_negative_pos _ b.after_from; before_to = not_negative_pos _ b.before_to }

@@ -64,7 +64,7 @@ zero_or_unit_negative x h n = inverse_negative x (h (λ e. n (sign_of-negative x
 cross_turned : (u v : Position) → IsSame (negative_of (cross_of u v)) (cross_of v u)
 cross_turned u v = number_ring (u.x ∷ u.y ∷ v.x ∷ v.y ∷ []) (⊖ (v0 ⊗ v3 ⊝ v1 ⊗ v2)) (v2 ⊗ v1 ⊝ v3 ⊗ v0) refl
 
-cross_opposite : (u v : Position) → IsSame (negative_of (cross_of u v)) (cross_of (opposite_of u) v)
+pub cross_opposite : (u v : Position) → IsSame (negative_of (cross_of u v)) (cross_of (opposite_of u) v)
 cross_opposite u v = number_ring (u.x ∷ u.y ∷ v.x ∷ v.y ∷ []) (⊖ (v0 ⊗ v3 ⊝ v1 ⊗ v2)) ((⊖ v0) ⊗ v3 ⊝ (⊖ v1) ⊗ v2) refl
 
 cross_opposite_right : (u v : Position) → IsSame (negative_of (cross_of u v)) (cross_of u (opposite_of v))

@@ -20,3 +20,5 @@ pub mod CrossLaws
 pub mod CommonPoints
 pub mod MeetLaws
 pub mod LineLaws
+pub mod Common
+pub mod CommonLaws

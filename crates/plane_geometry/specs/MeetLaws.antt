@@ -50,17 +50,17 @@ meeting_of l m =
     meeting_point (direction_vector (line_number l)) (wide_number_of (line_offset l)) (direction_vector (line_number m)) (wide_number_of (line_offset m))
     (unit_inverse_of (cross_tangents (line_number l) (line_number m)) (cross_roots (line_number l) (line_number m)))
 
-meets_first : (d : Position) (o : Number) (e : Position) (u i : Number) → IsSame (product_of (cross_of d e) i) (whole (pos 1)) → IsSame (cross_of d (meeting_point d o e u i)) o
+pub meets_first : (d : Position) (o : Number) (e : Position) (u i : Number) → IsSame (product_of (cross_of d e) i) (whole (pos 1)) → IsSame (cross_of d (meeting_point d o e u i)) o
 meets_first d o e u i h =
     number_ring_from (d.x ∷ d.y ∷ e.x ∷ e.y ∷ o ∷ u ∷ i ∷ []) ((v0 ⊗ v3 ⊝ v1 ⊗ v2) ⊗ v6) (con (whole (pos 1))) v4
     (v0 ⊗ ((v3 ⊗ v4 ⊝ v1 ⊗ v5) ⊗ v6) ⊝ v1 ⊗ ((v2 ⊗ v4 ⊝ v0 ⊗ v5) ⊗ v6)) v4 refl h
 
-meets_second : (d : Position) (o : Number) (e : Position) (u i : Number) → IsSame (product_of (cross_of d e) i) (whole (pos 1)) → IsSame (cross_of e (meeting_point d o e u i)) u
+pub meets_second : (d : Position) (o : Number) (e : Position) (u i : Number) → IsSame (product_of (cross_of d e) i) (whole (pos 1)) → IsSame (cross_of e (meeting_point d o e u i)) u
 meets_second d o e u i h =
     number_ring_from (d.x ∷ d.y ∷ e.x ∷ e.y ∷ o ∷ u ∷ i ∷ []) ((v0 ⊗ v3 ⊝ v1 ⊗ v2) ⊗ v6) (con (whole (pos 1))) v5
     (v2 ⊗ ((v3 ⊗ v4 ⊝ v1 ⊗ v5) ⊗ v6) ⊝ v3 ⊗ ((v2 ⊗ v4 ⊝ v0 ⊗ v5) ⊗ v6)) v5 refl h
 
-only_x : (d : Position) (o : Number) (e : Position) (u i : Number) (q : Position) → IsSame (product_of (cross_of d e) i) (whole (pos 1)) → IsSame (cross_of d q) o → IsSame (cross_of e q) u → IsSame q.x (meeting_point d o e u i).x
+pub only_x : (d : Position) (o : Number) (e : Position) (u i : Number) (q : Position) → IsSame (product_of (cross_of d e) i) (whole (pos 1)) → IsSame (cross_of d q) o → IsSame (cross_of e q) u → IsSame q.x (meeting_point d o e u i).x
 only_x d o e u i q h f g =
     number_ring_from_three (d.x ∷ d.y ∷ e.x ∷ e.y ∷ q.x ∷ q.y ∷ o ∷ u ∷ i ∷ [])
     ((v0 ⊗ v3 ⊝ v1 ⊗ v2) ⊗ v8) (con (whole (pos 1))) (⊖ v4)
@@ -68,7 +68,7 @@ only_x d o e u i q h f g =
     (v2 ⊗ v5 ⊝ v3 ⊗ v4) v7 (⊖ (v0 ⊗ v8))
     v4 ((v2 ⊗ v6 ⊝ v0 ⊗ v7) ⊗ v8) refl h f g
 
-only_y : (d : Position) (o : Number) (e : Position) (u i : Number) (q : Position) → IsSame (product_of (cross_of d e) i) (whole (pos 1)) → IsSame (cross_of d q) o → IsSame (cross_of e q) u → IsSame q.y (meeting_point d o e u i).y
+pub only_y : (d : Position) (o : Number) (e : Position) (u i : Number) (q : Position) → IsSame (product_of (cross_of d e) i) (whole (pos 1)) → IsSame (cross_of d q) o → IsSame (cross_of e q) u → IsSame q.y (meeting_point d o e u i).y
 only_y d o e u i q h f g =
     number_ring_from_three (d.x ∷ d.y ∷ e.x ∷ e.y ∷ q.x ∷ q.y ∷ o ∷ u ∷ i ∷ [])
     ((v0 ⊗ v3 ⊝ v1 ⊗ v2) ⊗ v8) (con (whole (pos 1))) (⊖ v5)

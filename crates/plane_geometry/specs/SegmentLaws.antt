@@ -1,7 +1,8 @@
 -- Segments as values: points of one place are one point, and segments with the same ends are one segment.
 use Rattle.std.proofs.Common.{◌≡◌, ℕ, Bool, true, false, None, Some, refl, sym, ap, ap₂, ◌∙◌, arith}
 use Rattle.std.specs.Option.{option_and_then}
-use Rattle.std.proofs.lemmas.Bool.{and_from, false≢true, le-leb}
+use Rattle.std.specs.Ordering.{is_lt}
+use Rattle.std.proofs.lemmas.Bool.{and_from, false≢true, le-leb, false_from_ne_true, cond-true}
 use mathlib.Core.HLevel.{is_prop→PathP}
 use mathlib.Core.Bool.{Bool-set}
 use Rattle.surd_number.specs.declared.Sgn.TheVariants.{Zero}
@@ -12,15 +13,15 @@ use Rattle.surd_number.specs.SurdLaws.{surd_is}
 use Rattle.surd_number.specs.Value.{number_of}
 use Rattle.plane_geometry.specs.declared.Point.{Point}
 use Rattle.plane_geometry.specs.declared.Segment.{Segment}
-use Rattle.plane_geometry.specs.Position.{Position, position_of}
+use Rattle.plane_geometry.specs.Position.{Position, position_of, compare_positions}
 use Rattle.plane_geometry.specs.Direction.{is_along, direction_of}
 use Rattle.plane_geometry.specs.Ends.{HasNoDirection}
 use Rattle.plane_geometry.specs.Stretch.{Stretch}
 use Rattle.plane_geometry.specs.Stored.{IsStretch}
 use Rattle.plane_geometry.specs.SegmentView.{lesser_end, greater_end}
-use Rattle.plane_geometry.specs.SegmentOf.{is_segment, segment_by, segment_from}
+use Rattle.plane_geometry.specs.SegmentOf.{is_segment, segment_by, segment_from, segment_of}
 use Rattle.plane_geometry.specs.SideLaws.{order_of, then_parts}
-use Rattle.plane_geometry.specs.DirectionLaws.{along_unique, along_back, opposite_number}
+use Rattle.plane_geometry.specs.DirectionLaws.{along_unique, along_back, opposite_number, direction_found}
 use Rattle.plane_geometry.specs.DirLaws.{dir_is}
 
 -- ---- points
@@ -67,6 +68,17 @@ segment_from_found s e =
 
 pub segment_from_none : (p q : Point) → direction_of (position_of p) (position_of q) ≡ None → segment_from p q ≡ None
 segment_from_none p q e = ap (λ o. option_and_then (λ n. segment_by p q n (is_segment p q n) refl) o) e
+
+-- the segment between the ends of a segment is that
+pub segment_of-ends : (s : Segment) → segment_of (lesser_end s) (greater_end s) ≡ Some s
+segment_of-ends s =
+    let n = s.dir.number in
+    cond-true (is_lt (compare_positions (position_of s.from) (position_of s.to))) (segment_from s.from s.to) (segment_from s.to s.from) s.stretch.0
+    ∙ segment_from_found s
+    (direction_found n (position_of s.from) (position_of s.to) (omega (arith, s.dir.in_range)) s.stretch.1
+    (λ k less. false_from_ne_true (is_along k (position_of s.from) (position_of s.to)) (λ e.
+    let same = along_unique k n (position_of s.from) (position_of s.to) (omega (arith, s.dir.in_range)) (omega (arith, s.dir.in_range)) e s.stretch.1 in
+    absurd (omega (arith, same, less)))))
 
 -- ---- no direction
 

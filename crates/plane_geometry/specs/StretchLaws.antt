@@ -158,3 +158,9 @@ end_from p s e = end_is p s ∙ or_left _ _ (ap is_zero e)
 
 pub end_to : (p : Position) (s : Stretch) → order_of p s.to ≡ Zero → is_end p s ≡ true
 end_to p s e = end_is p s ∙ or_right _ _ (ap is_zero e)
+
+pub from_end : (s : Stretch) → is_end s.from s ≡ true
+from_end s = end_from s.from s (order_self s.from)
+
+pub to_end : (s : Stretch) → is_end s.to s ≡ true
+to_end s = end_to s.to s (order_self s.to)

@@ -18,8 +18,8 @@ ghost use Rattle.plane_geometry.specs.LineStored.{PassesThroughPoint};
 
 pub use directions::direction;
 pub use lines::side;
-pub use meeting::{MeetFault, meet};
-pub use segments::{meets_at_ends, on_segment, overlaps, share_point};
+pub use meeting::{MeetFault, common_point, meet};
+pub use segments::{between_ends, meets_at_ends, on_segment, overlaps, parallel, share_point};
 pub use sides::side_from;
 use sides::{cross_at, is_before};
 use surd_number::{Surd, Wide};

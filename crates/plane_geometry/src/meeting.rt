@@ -1,6 +1,7 @@
 //! The common point of two lines.
 
-ghost use Rattle.std.specs.Prelude.{◌≡◌, ◌≢◌, ◌≤◌, ◌<◌, ◌^◌, ◌↔◌, pos, IfOk, MatchResult};
+ghost use Rattle.std.specs.Prelude.{◌≡◌, ◌≢◌, ◌≤◌, ◌<◌, ◌^◌, ◌↔◌, pos, IfOk, IsTrue, MatchResult};
+ghost use Rattle.std.specs.Result.{result_ok};
 ghost use Rattle.surd_number.specs.Number.{IsSame, product_of, difference_of, power_of, half_root, unit_inverse_of};
 ghost use Rattle.surd_number.specs.Stored.{IsSurd};
 ghost use Rattle.surd_number.specs.Value.{number_of, wide_number_of};
@@ -11,9 +12,11 @@ ghost use Rattle.plane_geometry.specs.CrossTable.{cross_tangents, cross_roots};
 ghost use Rattle.plane_geometry.specs.LineView.{line_number, IsOnLine, HasNoCommonPoint};
 ghost use Rattle.plane_geometry.specs.MeetLaws.{meeting_of};
 ghost use Rattle.plane_geometry.specs.Part.{part_number};
+ghost use Rattle.plane_geometry.specs.SegmentView.{stretch_of};
+ghost use Rattle.plane_geometry.specs.Common.{is_parallel, common_of};
 
 use crate::sides::{Part, parts, scaled};
-use crate::{Line, Point};
+use crate::{Line, Point, Segment};
 use surd_number::Wide;
 use thiserror::Error;
 
@@ -135,6 +138,17 @@ fn meet_later(l: &Line, m: &Line) -> Result<Point, MeetFault>
     let x = over_unit(&coordinate(m_x, l, l_x, m), i, j);
     let y = over_unit(&coordinate(m_y, l, l_y, m), i, j);
     narrowed(&x, &y)
+}
+
+/// The common point of the lines of two segments.
+pub fn common_point(s: &Segment, u: &Segment) -> Result<Point, MeetFault>
+    ensures parallel { (result ≡ Err MeetFault.Parallel) ↔ IsTrue (is_parallel (stretch_of s.now) (stretch_of u.now)) }
+    ensures value { result_ok result ≡ common_of (stretch_of s.now) (stretch_of u.now) }
+{
+    meet(
+        &Line::through(s.from(), s.dir()),
+        &Line::through(u.from(), u.dir()),
+    )
 }
 
 /// The common point of two lines.

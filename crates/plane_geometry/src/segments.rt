@@ -3,6 +3,7 @@
 ghost use Rattle.std.specs.Prelude.{◌≡◌, ◌↔◌, IsTrue};
 ghost use Rattle.plane_geometry.specs.Position.{position_of};
 ghost use Rattle.plane_geometry.specs.Stretch.{is_between, is_end, is_on, is_parted, is_crossing, is_touching, ends_at_ends, has_same_ends, meets_at_ends, is_overlapping, ShareAPoint, MeetAtEnds, ShareTwoPoints};
+ghost use Rattle.plane_geometry.specs.Common.{is_parallel};
 ghost use Rattle.plane_geometry.specs.SegmentView.{stretch_of};
 
 use crate::sides::{is_before, is_same, on_line, side_from, to_left, to_right};
@@ -15,8 +16,8 @@ fn at_end(p: &Point, s: &Segment) -> bool
     is_same(p, &s.from) || is_same(p, &s.to)
 }
 
-/// Whether the point is strictly between the ends.
-fn inside(p: &Point, s: &Segment) -> bool
+/// Whether the point is strictly between the ends of the segment.
+pub fn between_ends(p: &Point, s: &Segment) -> bool
     ensures { result ≡ is_between (position_of p.now) (stretch_of s.now) }
 {
     on_line(side_from(&s.from, s.dir, p)) && (is_before(&s.from, p) && is_before(p, &s.to))
@@ -26,7 +27,14 @@ fn inside(p: &Point, s: &Segment) -> bool
 pub fn on_segment(p: &Point, s: &Segment) -> bool
     ensures { result ≡ is_on (position_of p.now) (stretch_of s.now) }
 {
-    at_end(p, s) || inside(p, s)
+    at_end(p, s) || between_ends(p, s)
+}
+
+/// Whether the segments have the same direction, or opposite ones.
+pub fn parallel(s: &Segment, u: &Segment) -> bool
+    ensures { result ≡ is_parallel (stretch_of s.now) (stretch_of u.now) }
+{
+    s.dir.number % 8 == u.dir.number % 8
 }
 
 /// Whether `p` and `q` are strictly on different sides of the line of the segment.
