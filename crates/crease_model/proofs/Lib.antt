@@ -1,2 +1,6 @@
 pub mod Square
 pub mod SideLists
+pub mod LeastCorners
+pub mod LastSides
+pub mod Rotations
+pub mod NewSheets

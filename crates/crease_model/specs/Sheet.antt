@@ -1,5 +1,5 @@
 -- Sheets: convex polygons, given by their corners counterclockwise from the least one.
-use Rattle.std.specs.Prelude.{ℕ, ◌+◌, ◌-◌, ◌%◌, ℤ, pos, negsuc, Bool, true, false, ◌&&◌, List, [], ◌∷◌, map, length, Option, Some, None, unwrap_or, is_some, nat_le, nat_lt, nat_eq, slice_index_or, if◌then◌else◌}
+use Rattle.std.specs.Prelude.{ℕ, ◌+◌, ◌-◌, ◌%◌, ℤ, pos, negsuc, Bool, true, false, ◌&&◌, not, List, [], ◌∷◌, map, length, Option, Some, None, unwrap_or, is_some, nat_le, nat_lt, nat_eq, slice_index_or, if◌then◌else◌}
 use Rattle.std.specs.List.{list_any, list_all, sum}
 use Rattle.std.specs.Ordering.{is_lt}
 use Rattle.surd_number.specs.declared.Sgn.{Sgn}
@@ -32,9 +32,13 @@ sides_of (p ∷ ps) = sides_from p (p ∷ ps)
 abbrev pub side_direction : Side → Option ℕ
 side_direction s = direction_of (position_of s.start) (position_of s.end)
 
+-- the direction, 0 where there is none
+abbrev pub side_number : Side → ℕ
+side_number s = unwrap_or (side_direction s) 0
+
 -- on which side of a side of the sheet a point is: Pos is strictly left
 abbrev pub side_sign : Position → Side → Sgn
-side_sign p s = side_of (position_of s.start) (unwrap_or (side_direction s) 0) p
+side_sign p s = side_of (position_of s.start) (side_number s) p
 
 abbrev pub is_left_of : Position → Side → Bool
 is_left_of p s = is_positive (side_sign p s)
@@ -79,19 +83,27 @@ abbrev pub turns_of : List ℕ → List ℕ
 turns_of [] = []
 turns_of (n ∷ ns) = turns_from n (n ∷ ns)
 
+-- 1 to 7 steps to the left
+abbrev pub is_left_turn : ℕ → Bool
+is_left_turn turn = nat_le 1 turn && nat_le turn 7
+
 abbrev pub directions_of : List Point → List ℕ
-directions_of corners = map (λ side. unwrap_or (side_direction side) 0) (sides_of corners)
+directions_of corners = map side_number (sides_of corners)
+
+-- no corner is before p
+abbrev pub is_least : List Point → Point → Bool
+is_least corners p = list_all (λ q. not (is_lt (compare_positions (position_of q) (position_of p)))) corners
 
 abbrev pub is_least_first : List Point → Bool
 is_least_first [] = false
-is_least_first (p ∷ ps) = list_all (λ q. is_lt (compare_positions (position_of p) (position_of q))) ps
+is_least_first (p ∷ ps) = is_least (p ∷ ps) p
 
 -- 3 to 16 corners from the least one, sides in the 16 directions, turns of 1 to 7 units, 16 units in all
 unfoldable pub is_sheet : List Point → Bool
 is_sheet corners =
     (nat_le 3 (length corners) && nat_le (length corners) 16)
     && (list_all (λ side. is_some (side_direction side)) (sides_of corners)
-    && (list_all (λ turn. nat_le 1 turn && nat_le turn 7) (turns_of (directions_of corners))
+    && (list_all is_left_turn (turns_of (directions_of corners))
     && (nat_eq (sum (turns_of (directions_of corners))) 16 && is_least_first corners)))
 
 abbrev pub whole_point : ℤ → ℤ → Point

@@ -1,20 +1,25 @@
 //! Sheets and crease patterns: crease pieces and auxiliary lines on a convex sheet.
 #![tactic(auto)]
 
-ghost use Rattle.std.specs.Prelude.{◌≡◌, IfOk};
+ghost use Rattle.std.specs.Prelude.{◌≡◌, ◌≤◌, length, IfOk, IsTrue};
 ghost use Rattle.plane_geometry.specs.Position.{position_of};
 ghost use Rattle.plane_geometry.specs.SegmentView.{stretch_of};
-ghost use Rattle.crease_model.specs.Sheet.{square_corners, place_of, is_within_side};
+ghost use Rattle.crease_model.specs.Sheet.{square_corners, place_of, is_within_side, is_sheet};
+ghost use Rattle.crease_model.specs.NewSheet.{sheet_of, IsSheetAnswer};
 ghost use Rattle.crease_model.specs.View.{empty_on};
 ghost use Rattle.crease_model.specs.Rules.{IsPattern, size_of};
 
+mod corners;
+pub mod laws;
 mod sides;
 
+use corners::{fault_of, rotated};
 use plane_geometry::{Point, Segment};
 use sides::{place_among, within_side};
 use std::alloc::{AllocError, Global};
 use std::marker::Model;
 use surd_number::Surd;
+use thiserror::Error;
 
 /// The kind of a line: an edge of the sheet, a mountain or a valley crease, or an auxiliary line.
 #[derive(Clone, Copy, Debug, PartialEq, Eq)]
@@ -38,6 +43,19 @@ pub enum Place {
     Outside,
     Border,
     Inside,
+}
+
+/// Why there is no sheet with these corners.
+#[derive(Clone, Copy, Debug, PartialEq, Eq, Error)]
+pub enum SheetFault {
+    /// The number of the first bad corner, counted from 1: the side from it has none of the 16 directions, or both its
+    /// sides have one and the turn there is not 1 to 7 steps of 22.5 degrees. It is 0 where no corner is bad and the
+    /// turns don't add to 16 steps.
+    #[error("the corners make no sheet: corner {corner}")]
+    BadSheet { corner: u32 },
+    /// Memory ran out.
+    #[error("out of memory")]
+    Memory,
 }
 
 /// A convex sheet, seen as its corners counterclockwise from the least one.
@@ -76,9 +94,26 @@ impl Sheet {
         })
     }
 
+    /// The sheet with these corners, given counterclockwise. It keeps them from the first least one on.
+    #[tactic(auto, unfolding(crate::specs::NewSheet::sheet_of))]
+    pub fn new(alloc: Global, corners: &[Point]) -> Result<Sheet, SheetFault>
+        requires least { 3 ≤ length corners.now }
+        requires most { length corners.now ≤ 16 }
+        ensures { IsSheetAnswer result (sheet_of corners.now) }
+    {
+        match fault_of(corners) {
+            Some(corner) => Err(SheetFault::BadSheet { corner }),
+            None => match rotated(alloc, corners) {
+                Ok(corners) => Ok(Sheet { corners }),
+                Err(_) => Err(SheetFault::Memory),
+            },
+        }
+    }
+
     /// The corners, counterclockwise from the least one.
     pub fn corners(&self) -> &[Point]
-        ensures { result.now ≡ self.now }
+        ensures value { result.now ≡ self.now }
+        ensures rules { IsTrue (is_sheet self.now) }
     {
         self.corners.as_slice()
     }
@@ -145,9 +180,13 @@ impl Pattern {
 
     /// The sheet.
     pub fn sheet(&self) -> &Sheet
-        ensures { result.now ≡ self.now.corners }
+        ensures value { result.now ≡ self.now.corners }
+        ensures rules { IsTrue (is_sheet self.now.corners) }
     {
-        &self.sheet
+        let sheet = &self.sheet;
+        // opens the sheet, so that its rules are known
+        let _ = &sheet.corners;
+        sheet
     }
 
     /// The crease pieces, by their lesser end, then by their greater.
@@ -193,3 +232,6 @@ impl Pattern {
         Pattern { sheet, pieces, aux }
     }
 }
+
+#[cfg(test)]
+mod tests;

@@ -10,8 +10,8 @@ use crate::Place;
 use plane_geometry::{Dir, Point, Segment, direction, on_segment, side_from};
 use surd_number::Sgn;
 
-// The corner after the i-th: the next one, or the first after the last.
-fn next_corner(corners: &[Point], i: usize) -> &Point
+/// The corner after the i-th: the next one, or the first after the last.
+pub fn next_corner(corners: &[Point], i: usize) -> &Point
     requires { i < length corners.now }
     ensures { result.now ≡ next_corner_of corners.now i result.now }
 {
