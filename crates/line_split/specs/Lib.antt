@@ -1,0 +1,10 @@
+pub mod Members
+pub mod Cuts
+pub mod Parts
+pub mod Answer
+pub mod PointLaws
+pub mod CutLaws
+pub mod PartLaws
+pub mod FaultLaws
+pub mod Laws
+pub mod Lengths

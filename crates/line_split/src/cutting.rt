@@ -1,0 +1,128 @@
+//! The points where a segment is cut.
+
+ghost use Rattle.std.specs.Prelude.{◌≡◌, ◌<◌, ◌≤◌, ◌∷◌, ◌++◌, [], Some, Ok, length, drop, take, IfOk, IfSome, OnOk, MatchOption, MatchResult};
+ghost use Rattle.plane_geometry.specs.SegmentView.{stretch_of, lesser_end, greater_end};
+ghost use Rattle.line_split.specs.Cuts.{with_point, with_point_on, with_ends, is_meeting, with_meeting, with_piece_cuts, cuts_from, cuts_of};
+ghost use Rattle.line_split.specs.Answer.{IsCutFault, IsFaultAt, some_if};
+
+use crease_model::Piece;
+use plane_geometry::{Point, Segment, common_point, on_segment, parallel, share_point};
+use std::alloc::{AllocError, Global};
+use std::cmp::Ordering;
+use thiserror::Error;
+
+/// Why a segment has no list of cut points. Pieces count from 1.
+#[derive(Clone, Copy, Debug, PartialEq, Eq, Error)]
+pub enum SplitFault {
+    #[error("the common point with piece {piece} is not of two exact numbers within the limits")]
+    OutOfRange { piece: u32 },
+    #[error("out of memory")]
+    Memory,
+}
+
+// Where a point goes among ascending points; None where it is there.
+fn place_for(points: &[Point], v: &Point) -> Option<usize>
+    ensures bound { IfSome result (λ i. i ≤ length points.now) }
+    ensures value { MatchOption result (with_point points.now v.now ≡ points.now) (λ i. with_point points.now v.now ≡ take i points.now ++ v.now ∷ drop i points.now) }
+{
+    for (i, point) in points.iter().enumerate() {
+        match v.cmp(point) {
+            Ordering::Less => return Some(i),
+            Ordering::Equal => return None,
+            Ordering::Greater => {}
+        }
+    }
+    Some(points.len())
+}
+
+/// Adds a point to ascending points, unless it is there.
+pub fn insert_point(points: &mut Vec<Point>, v: &Point) -> Result<(), AllocError>
+    ensures { OnOk result (points.new.items ≡ with_point points.old.items v.now) }
+{
+    if let Some(i) = place_for(points.as_slice(), v) {
+        points.insert(i, *v)?;
+    }
+    Ok(())
+}
+
+fn insert_point_on(points: &mut Vec<Point>, s: &Segment, v: &Point) -> Result<(), AllocError>
+    ensures { OnOk result (points.new.items ≡ with_point_on (stretch_of s.now) points.old.items v.now) }
+{
+    if on_segment(v, s) {
+        insert_point(points, v)?;
+    }
+    Ok(())
+}
+
+// Whether the segments have different directions and a point in common.
+fn meeting(s: &Segment, u: &Segment) -> bool
+    ensures { result ≡ is_meeting (stretch_of s.now) (stretch_of u.now) }
+{
+    !parallel(s, u) && share_point(s, u)
+}
+
+// Adds the common point, where they meet; false where it is not of two Surds.
+fn insert_meeting(points: &mut Vec<Point>, s: &Segment, u: &Segment) -> Result<bool, AllocError>
+    ensures { IfOk result (λ found. with_meeting (stretch_of s.now) points.old.items (stretch_of u.now) ≡ some_if found points.new.items) }
+{
+    if !meeting(s, u) {
+        return Ok(true);
+    }
+    match common_point(s, u) {
+        Ok(v) => {
+            insert_point(points, &v)?;
+            Ok(true)
+        }
+        Err(_) => Ok(false),
+    }
+}
+
+// Adds the points where a segment is cut by another; false where their common point is not of two Surds.
+fn insert_cuts(points: &mut Vec<Point>, s: &Segment, u: &Segment) -> Result<bool, AllocError>
+    ensures { IfOk result (λ found. with_piece_cuts (stretch_of s.now) points.old.items u.now ≡ some_if found points.new.items) }
+{
+    insert_point_on(points, s, u.from())?;
+    insert_point_on(points, s, u.to())?;
+    insert_meeting(points, s, u)
+}
+
+fn insert_or_fault(
+    points: &mut Vec<Point>,
+    s: &Segment,
+    piece: &Piece,
+    number: u32,
+) -> Result<(), SplitFault>
+    ensures { MatchResult result (λ _. with_piece_cuts (stretch_of s.now) points.old.items piece.now.segment ≡ Some points.new.items) (λ fault. IsFaultAt fault number (with_piece_cuts (stretch_of s.now) points.old.items piece.now.segment)) }
+{
+    match insert_cuts(points, s, &piece.segment) {
+        Ok(true) => Ok(()),
+        Ok(false) => Err(SplitFault::OutOfRange { piece: number }),
+        Err(_) => Err(SplitFault::Memory),
+    }
+}
+
+fn ends_of(alloc: Global, s: &Segment) -> Result<Vec<Point>, SplitFault>
+    ensures { MatchResult result (λ points. points.items ≡ lesser_end s.now ∷ greater_end s.now ∷ []) (λ fault. fault ≡ SplitFault.Memory) }
+{
+    match Vec::from_slice(alloc, &[*s.from(), *s.to()]) {
+        Ok(points) => Ok(points),
+        Err(_) => Err(SplitFault::Memory),
+    }
+}
+
+/// The points of a segment that are its ends, ends of pieces, or common with a piece of another direction, ascending.
+#[tactic(auto, unfolding(crate::specs::Cuts::cuts_of))]
+pub fn cut_points(
+    alloc: Global,
+    segment: &Segment,
+    pieces: &[Piece],
+) -> Result<Vec<Point>, SplitFault>
+    requires { length pieces.now < 4294967295 }
+    ensures { MatchResult result (λ points. cuts_of segment.now pieces.now ≡ Ok points.items) (λ fault. IsCutFault fault (cuts_of segment.now pieces.now)) }
+{
+    let mut points = ends_of(alloc, segment)?;
+    for (i, piece) in pieces.iter().enumerate() {
+        insert_or_fault(&mut points, segment, piece, i as u32 + 1)?;
+    }
+    Ok(points)
+}

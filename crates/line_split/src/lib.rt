@@ -1,0 +1,12 @@
+//! Where segments are cut by pieces, and pieces cut at points.
+#![tactic(auto)]
+
+mod cutting;
+mod laws;
+mod parting;
+#[cfg(test)]
+mod tests;
+
+pub use cutting::{SplitFault, cut_points, insert_point};
+pub use laws::{cuts_are_exact, fault_is_first, parts_are_exact};
+pub use parting::cut_at;
