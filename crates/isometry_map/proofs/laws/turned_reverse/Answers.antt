@@ -1,0 +1,5 @@
+use Rattle.isometry_map.proofs.Tables.{turned_reverse}
+use Rattle.isometry_map.proofs.laws.turned_reverse.Goals as goal
+
+pub returns : goal.returns
+returns c = turned_reverse
