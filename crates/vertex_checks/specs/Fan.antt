@@ -1,0 +1,48 @@
+-- The creases that leave a vertex, counterclockwise from direction 0.
+use Rattle.std.specs.Prelude.{ℕ, ◌+◌, ◌%◌, ◌≤◌, nat_lt, List, [], ◌∷◌, Option, None, Some, if◌then◌else◌}
+use Rattle.std.proofs.Common.{arith}
+use Rattle.plane_geometry.specs.declared.Point.{Point}
+use Rattle.plane_geometry.specs.declared.Dir.{Dir}
+use Rattle.plane_geometry.specs.DirView.{dir_number}
+use Rattle.plane_geometry.specs.Position.{position_of, is_same_position}
+use Rattle.plane_geometry.specs.SegmentView.{lesser_end, greater_end, direction_number}
+use Rattle.crease_model.specs.declared.Piece.{Piece}
+use Rattle.vertex_checks.specs.declared.fans.Ray.{Ray}
+
+pub number_in_range : (n : ℕ) → n % 16 ≤ 15
+number_in_range n = omega arith
+
+-- the direction of this number, modulo 16
+abbrev pub dir_of : ℕ → Dir
+dir_of n = record { number = n % 16; in_range = number_in_range n }
+
+abbrev pub ray_number : Ray → ℕ
+ray_number r = dir_number r.dir
+
+-- of the kind of the piece
+abbrev pub ray_of : Piece → ℕ → Ray
+ray_of p n = record { dir = dir_of n; kind = p.kind }
+
+-- how the piece leaves v: from its lesser end in its direction, and from its greater one in the opposite direction
+abbrev pub ray_at : Point → Piece → Option Ray
+ray_at v p =
+    if is_same_position (position_of (lesser_end p.segment)) (position_of v) then Some (ray_of p (direction_number p.segment))
+    else if is_same_position (position_of (greater_end p.segment)) (position_of v) then Some (ray_of p (direction_number p.segment + 8))
+    else None
+
+-- rays by their directions with one more
+abbrev pub with_ray : List Ray → Ray → List Ray
+with_ray [] r = r ∷ []
+with_ray (q ∷ qs) r = if nat_lt (ray_number r) (ray_number q) then r ∷ q ∷ qs else q ∷ with_ray qs r
+
+abbrev pub with_ray_if : List Ray → Option Ray → List Ray
+with_ray_if rays None = rays
+with_ray_if rays (Some r) = with_ray rays r
+
+-- the rays with those of these pieces at v
+abbrev pub fan_from : Point → List Piece → List Ray → List Ray
+fan_from v [] rays = rays
+fan_from v (p ∷ ps) rays = fan_from v ps (with_ray_if rays (ray_at v p))
+
+unfoldable pub fan_of : Point → List Piece → List Ray
+fan_of v pieces = fan_from v pieces []

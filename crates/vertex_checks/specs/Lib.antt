@@ -1,0 +1,5 @@
+pub mod Vertices
+pub mod Fan
+pub mod Faults
+pub mod Text
+pub mod Laws

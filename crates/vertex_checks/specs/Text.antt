@@ -1,0 +1,25 @@
+-- Faults as text, a line each.
+use Rattle.std.specs.Prelude.{ℕ, List, ◌++◌, flat_map, codes, decimal}
+use Rattle.surd_number.specs.Value.{number_of}
+use Rattle.plane_geometry.specs.declared.Point.{Point}
+use Rattle.plane_geometry.specs.DirView.{dir_number}
+use Rattle.cp_text.specs.NumberText.{number_text}
+use Rattle.vertex_checks.specs.declared.faults.LocalFault.{LocalFault}
+use Rattle.vertex_checks.specs.declared.faults.LocalFault.TheVariants.{Kawasaki, Maekawa, BigLittleBig}
+use Rattle.vertex_checks.specs.declared.faults.VertexFault.{VertexFault}
+
+-- the word, and its numbers
+abbrev pub local_text : LocalFault → List ℕ
+local_text Kawasaki = codes "kawasaki"
+local_text (Maekawa m v) = codes "maekawa " ++ decimal m ++ codes " " ++ decimal v
+local_text (BigLittleBig direction) = codes "biglittlebig " ++ decimal (dir_number direction)
+
+-- both coordinates, each with a space behind it
+abbrev pub vertex_text : Point → List ℕ
+vertex_text v = number_text (number_of v.x) ++ codes " " ++ number_text (number_of v.y) ++ codes " "
+
+abbrev pub fault_text : VertexFault → List ℕ
+fault_text f = vertex_text f.vertex ++ local_text f.fault ++ codes "\n"
+
+abbrev pub faults_text : List VertexFault → List ℕ
+faults_text faults = flat_map fault_text faults

@@ -1,0 +1,22 @@
+//! Local checks of flat folding: at each vertex strictly inside the sheet, the theorems of Kawasaki and Maekawa and the
+//! big-little-big lemma.
+#![tactic(auto)]
+
+mod checking;
+mod fans;
+mod faults;
+mod laws;
+mod sectors;
+#[cfg(test)]
+mod tests;
+mod vertices;
+mod writing;
+
+pub use checking::check;
+pub use fans::Ray;
+pub use faults::{LocalFault, VertexFault};
+pub use laws::{
+    big_little_big_is_exact, fans_are_rays, faults_are_of_fans, kawasaki_is_exact,
+    maekawa_is_exact, vertices_are_inner_ends,
+};
+pub use writing::write_faults;
