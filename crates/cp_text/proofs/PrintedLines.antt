@@ -1,6 +1,6 @@
 -- A line's text reads as the line, and a pattern's text as its lines.
 use Rattle.std.specs.Prelude.{Ok}
-use Rattle.std.proofs.Common.{◌≡◌, ℕ, zero, suc, ◌+◌, ◌/◌, ◌%◌, ◌^◌, ◌<◌, ◌≤◌, ℤ, pos, negsuc, unsigned_abs, List, [], ◌∷◌, ◌++◌, length, map, true, false, ◌&&◌, nat_le, nat_lt, ◌==◌, Some, codes, decimal, refl, ap, ap₂, sym, ◌∙◌, arith, append_assoc}
+use Rattle.std.proofs.Common.{◌≡◌, ℕ, zero, suc, ◌+◌, ◌/◌, ◌%◌, ◌^◌, ◌<◌, ◌≤◌, ℤ, pos, negsuc, unsigned_abs, List, [], ◌∷◌, ◌++◌, length, map, true, false, ◌&&◌, nat_le, nat_lt, ◌==◌, cond, get_or, take, ◌-◌, Some, codes, decimal, refl, ap, ap₂, sym, ◌∙◌, arith, append_assoc}
 use Rattle.std.specs.List.{list_all}
 use Rattle.std.proofs.lemmas.Bool.Decides.{nat_tests}
 use Rattle.std.proofs.lemmas.List.{append-nil, length-append}
@@ -15,7 +15,7 @@ use Rattle.crease_model.specs.declared.Kind.{Kind}
 use Rattle.crease_model.specs.declared.Kind.TheVariants.{Edge, Mountain, Valley, Aux}
 use Rattle.crease_model.specs.View.{PatternView}
 use Rattle.cp_text.specs.declared.line.CpLine.{CpLine}
-use Rattle.cp_text.specs.Words.{is_blank, after_word, words_from, words_of, lines_from, lines_of}
+use Rattle.cp_text.specs.Words.{is_blank, after_word, words_from, words_of, lines_from, lines_of, without_return, bare_lines}
 use Rattle.cp_text.specs.NumberText.{fraction_digits, behind_point, magnitude_text, minus_text, joining_text, part_text, parts_text, number_text}
 use Rattle.cp_text.specs.LineText.{kind_digit, coordinate_text, point_text, line_body, line_text, lines_text, pattern_lines, pattern_text}
 use Rattle.cp_text.specs.LineReading.{coordinate_read, placed, kind_line, words_line, line_read}
@@ -275,3 +275,28 @@ lines_text-reads (line ∷ lines) =
 
 pub pattern_text-reads : (p : PatternView) → map line_read (lines_of (pattern_text p)) ≡ map Ok (pattern_lines p)
 pattern_text-reads p = lines_text-reads (pattern_lines p)
+
+-- ---- the lines without their ends
+
+-- no byte of a line is a carriage return, and past its end none is read
+no_return : (bytes : List ℕ) (k : ℕ) → AtLeast 32 bytes → (get_or bytes k 0 == 13) ≡ false
+no_return [] k h = refl
+no_return (b ∷ bs) zero h = let first = at_least_first 32 b bs h in grind (arith, nat_tests)
+no_return (b ∷ bs) (suc k) h = no_return bs k (at_least_rest 32 b bs h)
+
+bare : (line : List ℕ) → AtLeast 32 line → without_return line ≡ line
+bare line h = ap (λ b. cond b (take (length line - 1) line) line) (no_return line (length line - 1) h)
+
+bare_lines-line : (line : CpLine) (rest : List ℕ) → bare_lines (line_text line ++ rest) ≡ line_body line ∷ bare_lines rest
+bare_lines-line line rest =
+    ap (map without_return) (lines_of-line line rest) ∙ ap (λ l. l ∷ bare_lines rest) (bare (line_body line) (body_bytes line))
+
+lines_text-parted : (lines : List CpLine) (rest : List ℕ) → bare_lines (lines_text lines ++ rest) ≡ map line_body lines ++ bare_lines rest
+lines_text-parted [] rest = refl
+lines_text-parted (line ∷ lines) rest =
+    ap bare_lines (append_assoc (line_text line) (lines_text lines) rest)
+    ∙ bare_lines-line line (lines_text lines ++ rest)
+    ∙ ap (λ ls. line_body line ∷ ls) (lines_text-parted lines rest)
+
+pub pattern_text-parted : (p : PatternView) (rest : List ℕ) → bare_lines (pattern_text p ++ rest) ≡ map line_body (pattern_lines p) ++ bare_lines rest
+pattern_text-parted p rest = lines_text-parted (pattern_lines p) rest

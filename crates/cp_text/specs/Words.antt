@@ -1,5 +1,5 @@
 -- Words of a line, and lines of a text.
-use Rattle.std.specs.Prelude.{ℕ, ◌-◌, Bool, true, not, ◌||◌, ◌==◌, List, [], ◌∷◌, ◌++◌, length, take, slice_index, if◌then◌else◌}
+use Rattle.std.specs.Prelude.{ℕ, ◌-◌, Bool, true, not, ◌||◌, ◌==◌, List, [], ◌∷◌, ◌++◌, map, length, take, slice_index, if◌then◌else◌}
 
 -- a space or a tab
 abbrev pub is_blank : ℕ → Bool
@@ -37,3 +37,7 @@ lines_from line (b ∷ bs) = if b == 10 then line ∷ lines_from [] bs else line
 -- a line ends with a line feed; the bytes after the last one are a line where there are any
 abbrev pub lines_of : List ℕ → List (List ℕ)
 lines_of bytes = lines_from [] bytes
+
+-- the lines of a text without their ends
+abbrev pub bare_lines : List ℕ → List (List ℕ)
+bare_lines bytes = map without_return (lines_of bytes)

@@ -2,7 +2,7 @@
 
 ghost use Rattle.cp_text.specs.NumberGrammar.{ReadsByTheGrammar};
 ghost use Rattle.cp_text.specs.NumberValue.{ReadsTheValue};
-ghost use Rattle.cp_text.specs.Laws.{NumbersReadBack, LinesReadBack, PatternsReadBack};
+ghost use Rattle.cp_text.specs.Laws.{NumbersReadBack, LinesReadBack, PatternsReadBack, PatternsArePartedByLines};
 
 /// Reading the text of a number gives that number.
 #[tactic(auto, using(crate::proofs::ReadBack::numbers_read_back))]
@@ -20,6 +20,12 @@ pub fn lines_read_back()
 #[tactic(auto, using(crate::proofs::ReadBack::patterns_read_back))]
 pub fn patterns_read_back()
     ensures { PatternsReadBack }
+{}
+
+/// The lines of a pattern's text are the texts of its lines, whatever follows it.
+#[tactic(auto, using(crate::proofs::ReadBack::patterns_are_parted_by_lines))]
+pub fn patterns_are_parted_by_lines()
+    ensures { PatternsArePartedByLines }
 {}
 
 /// A text of one of the grammar's forms reads as the value of its parts, exponent notation is not exact, and any other

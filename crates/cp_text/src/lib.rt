@@ -12,11 +12,12 @@ mod words;
 mod writing;
 
 pub use laws::{
-    lines_read_back, numbers_read_back, patterns_read_back, reads_by_the_grammar, reads_the_value,
+    lines_read_back, numbers_read_back, patterns_are_parted_by_lines, patterns_read_back,
+    reads_by_the_grammar, reads_the_value,
 };
 pub use line::{CpLine, Ends, LineFault};
 pub use number_reading::{NumberFault, is_digits, read_number};
 pub use number_writing::write_number;
-pub use reading::{read_coordinate, read_ends, read_line, read_point};
-pub use words::next_word;
+pub use reading::{read_coordinate, read_ends, read_kind, read_line, read_point};
+pub use words::{next_line, next_word};
 pub use writing::{write_line, write_pattern};

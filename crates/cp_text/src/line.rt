@@ -22,9 +22,6 @@ pub struct Ends {
 /// Why a line is no command. A place is that of a word after the first, counted from 1.
 #[derive(Clone, Copy, Debug, PartialEq, Eq, Error)]
 pub enum LineFault {
-    /// A line that is not carried out.
-    #[error("not yet")]
-    NotYet,
     #[error("more than 1,000 bytes")]
     LongLine,
     #[error("unknown word")]

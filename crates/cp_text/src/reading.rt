@@ -69,7 +69,8 @@ pub fn read_ends(place: u32, words: &[u8]) -> Result<Ends, LineFault>
     Ok(Ends { from, to })
 }
 
-fn read_kind(word: &[u8]) -> Option<Kind>
+/// The kind that a word is, one digit.
+pub fn read_kind(word: &[u8]) -> Option<Kind>
     ensures { result ≡ kind_of word.now }
 {
     if word == b"1".as_slice() {

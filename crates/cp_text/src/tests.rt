@@ -193,6 +193,43 @@ fn refuses_lines(rt: HostRuntime) {
 }
 
 #[test]
+fn parts_lines(rt: HostRuntime) -> Result<(), Fail> {
+    let rows: [(&[u8], &[&[u8]]); 7] = [
+        (b"", &[]),
+        (b"2 0", &[b"2 0"]),
+        (b"a\nb\n", &[b"a", b"b"]),
+        (b"a\r\nb\r", &[b"a", b"b"]),
+        (b"\n\r\n \n", &[b"", b"", b" "]),
+        (b"a\r\r\nb\rc", &[b"a\r", b"b\rc"]),
+        (b"\n", &[b""]),
+    ];
+    for (text, lines) in rows {
+        let mut rest = text;
+        for line in lines {
+            match next_line(rest) {
+                Some((first, after)) => {
+                    assert_eq!(rt; first, *line, "{text:?}");
+                    rest = after;
+                }
+                None => assert!(rt; false, "{text:?}"),
+            }
+        }
+        assert!(rt; next_line(rest).is_none(), "{text:?}");
+    }
+    Ok(())
+}
+
+#[test]
+fn reads_kinds_and_ends(rt: HostRuntime) {
+    assert_eq!(rt; read_kind(b"1"), Some(Kind::Edge));
+    assert_eq!(rt; read_kind(b"3"), Some(Kind::Valley));
+    assert_eq!(rt; read_kind(b"03"), None);
+    let fault = LineFault::NotExact { place: 5 };
+    assert!(rt; matches!(read_ends(2, b"0 0 1 0.3"), Err(found) if found == fault));
+    assert!(rt; read_point(1, b"0", b"1r2").is_ok());
+}
+
+#[test]
 fn bounds_a_line(rt: HostRuntime) -> Result<(), Fail> {
     let mut line = Vec::from_slice(rt.alloc(), b"2 0 0 1 1")?;
     for _ in 9..1000 {

@@ -1,7 +1,7 @@
-//! Words of a line.
+//! Words of a line, and lines of a text.
 
-ghost use Rattle.std.specs.Prelude.{◌≡◌, ◌≤◌, ◌∷◌, [], length, take, drop, IsTrue, MatchOption};
-ghost use Rattle.cp_text.specs.Words.{is_blank, words_of, after_word, starts_word};
+ghost use Rattle.std.specs.Prelude.{◌≡◌, ◌+◌, ◌<◌, ◌≤◌, ◌∷◌, [], length, take, drop, IsTrue, MatchOption};
+ghost use Rattle.cp_text.specs.Words.{is_blank, words_of, after_word, starts_word, without_return, lines_of, bare_lines};
 
 /// A space or a tab.
 fn is_blank_byte(b: u8) -> bool
@@ -50,4 +50,44 @@ pub fn next_word(line: &[u8]) -> Option<(&[u8], &[u8])>
         return None;
     }
     Some((&line[..end], &line[end..]))
+}
+
+/// Where the first line of a text ends.
+fn line_end(text: &[u8]) -> usize
+    ensures bound { result ≤ length text.now }
+    ensures feed { result < length text.now → lines_of text.now ≡ take result text.now ∷ lines_of (drop (result + 1) text.now) }
+    ensures last { result ≡ length text.now → lines_of text.now ≡ after_word text.now [] }
+{
+    for (i, b) in text.iter().enumerate() {
+        if *b == b'\n' {
+            return i;
+        }
+    }
+    text.len()
+}
+
+fn strip_return(line: &[u8]) -> &[u8]
+    ensures { result.now ≡ without_return line.now }
+{
+    if line.is_empty() || line[line.len() - 1] != b'\r' {
+        return line;
+    }
+    &line[..line.len() - 1]
+}
+
+/// The first line of a text without its end, and the rest of the text.
+pub fn next_line(text: &[u8]) -> Option<(&[u8], &[u8])>
+    ensures { MatchOption result
+        (bare_lines text.now ≡ [])
+        (λ found. bare_lines text.now ≡ found.0.now ∷ bare_lines found.1.now) }
+{
+    if text.is_empty() {
+        return None;
+    }
+    let end = line_end(text);
+    if end < text.len() {
+        Some((strip_return(&text[..end]), &text[end + 1..]))
+    } else {
+        Some((strip_return(text), &text[text.len()..]))
+    }
 }

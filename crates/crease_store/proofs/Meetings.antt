@@ -4,23 +4,27 @@ use Rattle.std.specs.Prelude.{Contains}
 use Rattle.std.proofs.lemmas.Bool.{agree_below, agree_below_at, and_parts, and_from, and_left, or_right, not_from_false, false_from_ne_true, both_ways}
 use Rattle.surd_number.specs.declared.Sgn.{Sgn}
 use Rattle.surd_number.specs.declared.Sgn.TheVariants.{Zero}
-use Rattle.surd_number.specs.SignLaws.{opposite_sign, times_sign}
+use Rattle.surd_number.specs.SignLaws.{times_sign}
 use Rattle.plane_geometry.specs.declared.Segment.{Segment}
 use Rattle.plane_geometry.specs.Position.{Position}
 use Rattle.plane_geometry.specs.Direction.{is_zero, is_positive, is_negative, side_of}
 use Rattle.plane_geometry.specs.SegmentView.{stretch_of}
 use Rattle.plane_geometry.specs.Stored.{IsStretch}
-use Rattle.plane_geometry.specs.Stretch.{Stretch, MeetAtEnds, is_between, is_end, is_on, is_in_line, is_parted, is_crossing, has_same_ends, ends_at_ends}
-use Rattle.plane_geometry.specs.SideLaws.{order_of, side_from, turn_of, product_by_zero}
-use Rattle.plane_geometry.specs.StretchLaws.{LiesOn, zero_is, before_is, before_then, then_before, ends_order, to_in_line, side_self, on_parts, on_from_parts}
-use Rattle.plane_geometry.specs.CommonPoints.{LiesBetween, crossing_point, meeting_is, side_on_line, turn_turned}
+use Rattle.plane_geometry.specs.Stretch.{Stretch, MeetAtEnds, is_between, is_end, is_on, is_parted, is_crossing, has_same_ends, ends_at_ends}
+use Rattle.plane_geometry.specs.SideLaws.{order_of, turn_of, product_by_zero}
+use Rattle.plane_geometry.specs.StretchLaws.{zero_is, on_parts}
+use Rattle.plane_geometry.specs.CommonPoints.{LiesBetween, between_from_parts, crossing_point, meeting_is, side_on_line}
 use Rattle.crease_model.specs.declared.Kind.{Kind}
 use Rattle.crease_model.specs.declared.Piece.{Piece}
 use Rattle.crease_model.specs.Rules.{AllMeetAtEnds, is_ascending, segments_of}
-use Rattle.crease_store.specs.Added.{covers, is_parallel, is_meeting_point, is_vertex, HasAddedKind, IsPieceOfAdd}
-use Rattle.crease_store.proofs.Members.{Member, member, contained, all_from_members, member_any, members_meet}
+use Rattle.plane_geometry.specs.Common.{is_parallel}
+use Rattle.crease_model.specs.PartLaws.{turn_in_line, one_line, ends_lie}
+use Rattle.line_split.specs.Cuts.{is_meeting_point}
+use Rattle.line_split.specs.Members.{Member, member, contained, all_from_members, member_any}
+use Rattle.crease_store.specs.Added.{covers, is_vertex, HasAddedKind, IsPieceOfAdd}
+use Rattle.crease_store.proofs.Members.{members_meet}
 use Rattle.crease_store.proofs.Ascending.{ascending_rest, differs_later}
-use Rattle.crease_store.proofs.Covered.{same_segment, vertex_at_old}
+use Rattle.crease_store.proofs.Covered.{same_segment, inner_on, vertex_at_old}
 
 -- ---- parallel directions
 
@@ -41,16 +45,6 @@ parallel_turn m n few_m few_n e =
 
 -- ---- lines
 
--- a stretch with both ends on the line of x does not turn from it
-turn_in_line : (x q : Stretch) → IsStretch x → IsStretch q → side_of x.from x.dir q.from ≡ Zero → side_of x.from x.dir q.to ≡ Zero → turn_of q.dir x.dir ≡ Zero
-turn_in_line x q h k a b =
-    sym (ap (λ t. times_sign t (turn_of q.dir x.dir)) (ends_order q k)) ∙ sym (side_on_line x q.from q.to q.dir h a b) ∙ to_in_line q k
-
--- where the lines of x and y have a point in common and do not turn from each other, they are one line
-one_line : (x y : Stretch) (p v : Position) → IsStretch x → turn_of y.dir x.dir ≡ Zero → side_of x.from x.dir p ≡ Zero → side_of y.from y.dir p ≡ Zero → side_of x.from x.dir v ≡ Zero → side_of y.from y.dir v ≡ Zero
-one_line x y p v h turn in_x in_y v_in_x =
-    side_from y.from y.dir p v in_y ∙ side_on_line x p v y.dir h in_x v_in_x ∙ ap (times_sign (order_of p v)) turn ∙ product_by_zero (order_of p v)
-
 -- stretches on one line do not cross
 no_crossing : (x q r : Stretch) → IsStretch x → IsStretch q → side_of x.from x.dir q.from ≡ Zero → side_of x.from x.dir q.to ≡ Zero → side_of x.from x.dir r.from ≡ Zero → is_crossing q r ≡ false
 no_crossing x q r h k a b c =
@@ -69,24 +63,6 @@ data CoveredBy (old : List Piece) (s : Stretch) (q : Stretch) : Type 0 where
 covered_by : (old : List Piece) (kind : Kind) (s : Stretch) (q : Piece) → HasAddedKind old kind s q → CoveredBy old s (stretch_of q.segment)
 covered_by old kind s q (inl w) = by_new w.0
 covered_by old kind s q (inr w) = by_old (w.1).0 (member old (w.1).0 (w.1).1) (w.1).2
-
-ends_lie : (x q : Stretch) → IsStretch x → covers x q ≡ true → LiesOn q.from x × LiesOn q.to x
-ends_lie x q h e = let k = and_parts (is_on q.from x) (is_on q.to x) e in (on_parts q.from x h k.0, on_parts q.to x h k.1)
-
--- a point strictly between the ends of q is on each stretch that covers q
-inner_on : (x q : Stretch) (v : Position) → IsStretch x → IsStretch q → covers x q ≡ true → LiesBetween v q → is_on v x ≡ true
-inner_on x q v h k e b =
-    let l = ends_lie x q h e in
-    let turn : turn_of x.dir q.dir ≡ Zero = turn_turned q.dir x.dir ∙ ap opposite_sign (turn_in_line x q h k l.0.in_line l.1.in_line) in
-    on_from_parts v x h (record {
-      in_line = one_line q x q.from v k turn (side_self q.from q.dir) l.0.in_line b.in_line;
-      after_from = ap is_negative (then_before x.from q.from v l.0.after_from b.after_from);
-      before_to = ap is_negative (before_then v q.to x.to b.before_to l.1.before_to);
-    })
-
-between_from_parts : (v : Position) (q : Stretch) → LiesBetween v q → is_between v q ≡ true
-between_from_parts v q b =
-    and_from (is_in_line v q) _ (ap is_zero b.in_line) (and_from _ _ (before_is q.from v ∙ ap is_positive b.after_from) (before_is v q.to ∙ ap is_positive b.before_to))
 
 -- ---- two pieces
 

@@ -1,5 +1,5 @@
 -- Adding a segment to a pattern: which pieces and lines there are then.
-use Rattle.std.specs.Prelude.{◌≡◌, ◌⊎◌, ◌↔◌, ◌%◌, Bool, ◌&&◌, ◌||◌, not, nat_eq, List, Some, Contains, IsTrue, IsFalse}
+use Rattle.std.specs.Prelude.{◌≡◌, ◌⊎◌, ◌↔◌, Bool, ◌&&◌, ◌||◌, List, Some, Contains, IsTrue, IsFalse}
 use Rattle.std.specs.List.{list_any}
 use Rattle.plane_geometry.specs.declared.Point.{Point}
 use Rattle.plane_geometry.specs.declared.Segment.{Segment}
@@ -12,18 +12,11 @@ use Rattle.crease_model.specs.declared.Kind.TheVariants.{Edge, Mountain, Valley,
 use Rattle.crease_model.specs.declared.Piece.{Piece}
 use Rattle.crease_model.specs.Rules.{is_ascending, segments_of}
 use Rattle.crease_model.specs.View.{PatternView}
+use Rattle.line_split.specs.Cuts.{is_meeting_point}
 
 -- both ends of u are on s
 abbrev pub covers : Stretch → Stretch → Bool
 covers s u = is_on u.from s && is_on u.to s
-
--- in one direction, or in opposite ones
-abbrev pub is_parallel : Stretch → Stretch → Bool
-is_parallel s u = nat_eq (s.dir % 8) (u.dir % 8)
-
--- a point of both, where they have different directions
-abbrev pub is_meeting_point : Position → Stretch → Stretch → Bool
-is_meeting_point v s u = (is_on v s && is_on v u) && not (is_parallel s u)
 
 -- where pieces may end: at the ends of s and of the old pieces, and where s meets an old piece of another direction
 abbrev pub is_vertex : List Piece → Stretch → Position → Bool

@@ -2,8 +2,8 @@
 use Rattle.std.specs.Prelude.{◌≡◌, ⊤, Ok, Err}
 use Rattle.std.specs.declared.result.Result.{Result}
 use Rattle.crease_model.specs.View.{PatternView}
-use Rattle.crease_store.specs.declared.adding.StoreFault.{StoreFault}
-use Rattle.crease_store.specs.declared.adding.StoreFault.TheVariants.{Memory}
+use Rattle.crease_store.specs.declared.faults.StoreFault.{StoreFault}
+use Rattle.crease_store.specs.declared.faults.StoreFault.TheVariants.{Memory}
 
 abbrev pub IsRefusal : StoreFault → Result PatternView StoreFault → Type 0
 IsRefusal Memory answer = ⊤

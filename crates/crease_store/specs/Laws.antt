@@ -1,24 +1,14 @@
 -- What adding a segment gives.
-use Rattle.std.specs.Prelude.{◌≡◌, None, Ok, IsTrue}
+use Rattle.std.specs.Prelude.{◌≡◌, Ok}
 use Rattle.plane_geometry.specs.declared.Point.{Point}
 use Rattle.plane_geometry.specs.declared.Segment.{Segment}
-use Rattle.plane_geometry.specs.SegmentView.{stretch_of}
 use Rattle.crease_model.specs.declared.Kind.{Kind}
 use Rattle.crease_model.specs.View.{PatternView}
-use Rattle.crease_model.specs.Rules.{IsPattern, AllMeetAtEnds, is_crease_kind}
+use Rattle.crease_model.specs.Rules.{IsPattern, AllMeetAtEnds}
 use Rattle.crease_store.specs.Added.{IsAdded, IsAddedBetween}
-use Rattle.crease_store.specs.Uncut.{add_of, segment_refusal, with_crease}
+use Rattle.crease_store.specs.Adding.{add_of}
 
--- a crease that meets the old pieces at ends alone is added as one more piece
-abbrev pub UncutIsAdded : Type 0
-UncutIsAdded =
-    (old : PatternView) (kind : Kind) (s : Segment)
-    → IsPattern old
-    → IsTrue (is_crease_kind kind)
-    → segment_refusal old (stretch_of s) ≡ None
-    → IsAdded old kind s (with_crease old kind s)
-
--- where a crease between two points is accepted, the segment between them is added
+-- where a line between two points is accepted, the segment between them is added
 abbrev pub AcceptedIsAdded : Type 0
 AcceptedIsAdded =
     (old : PatternView) (kind : Kind) (from to : Point) (new : PatternView)

@@ -1,5 +1,11 @@
-pub mod Pieces
-pub mod Uncut
 pub mod Answer
+pub mod Placed
 pub mod Added
+pub mod Adding
+pub mod Changed
+pub mod Merged
+pub mod Rising
+pub mod ChangeLaws
 pub mod Laws
+pub mod Loading
+pub mod OwnLines

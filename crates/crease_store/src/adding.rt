@@ -1,49 +1,25 @@
-//! Adding a crease.
+//! Adding a line.
 
-ghost use Rattle.std.specs.Prelude.{◌≡◌, ◌+◌, ◌≤◌, Ok, Err, None, IfOk, IfSome, IsTrue, IsSome, MatchOption};
+ghost use Rattle.std.specs.Prelude.{◌≡◌, ◌++◌, Ok, IfOk, OnOk, IsTrue};
+ghost use Rattle.std.specs.Bool.{IsFalse};
 ghost use Rattle.plane_geometry.specs.SegmentView.{stretch_of};
-ghost use Rattle.plane_geometry.specs.Stretch.{meets_at_ends};
-ghost use Rattle.crease_model.specs.Rules.{is_crease_kind, is_on_sheet, size_of};
-ghost use Rattle.crease_model.specs.Sheet.{is_outside};
-ghost use Rattle.crease_store.specs.Uncut.{add_of, segment_refusal, with_crease, refused_or, meets_all, segment_fault};
+ghost use Rattle.crease_model.specs.Rules.{IsPattern, is_crease_kind, is_on_sheet};
+ghost use Rattle.crease_model.specs.Sheet.{is_sheet, is_outside, is_within_side};
+ghost use Rattle.line_split.specs.Cuts.{cuts_of};
+ghost use Rattle.crease_store.specs.Added.{covers};
+ghost use Rattle.crease_store.specs.Placed.{line_at, placed};
+ghost use Rattle.crease_store.specs.Adding.{add_of, segment_added, edge_added, line_added, crease_added, pieces_with, with_crease, with_line, untouched, uncovered, rest_of, rests_of, if_it_fits, segment_fault};
 ghost use Rattle.crease_store.specs.Answer.{IsAnswer};
 
-use crate::pieces::insert_piece;
+use crate::faults::StoreFault;
+use crate::placing::{place_line, place_pieces};
 use crease_model::{Kind, Pattern, Piece, Place, Sheet};
-use plane_geometry::{Point, Segment, meets_at_ends};
+use line_split::{SplitFault, cut_at, cut_points};
+use plane_geometry::{Point, Segment, on_segment, share_point};
 use std::alloc::{AllocError, Global};
-use thiserror::Error;
-
-/// Why a pattern was not changed.
-#[derive(Clone, Copy, Debug, PartialEq, Eq, Error)]
-pub enum StoreFault {
-    #[error("the editor does not add such a line yet")]
-    NotYet,
-    #[error("both ends are equal")]
-    ZeroLength,
-    #[error("the ends have none of the 16 directions")]
-    BadDirection,
-    #[error("an end is outside the sheet")]
-    OutsideSheet,
-    #[error("the crease is within one side of the sheet")]
-    OnBorder,
-    #[error("the pattern would have {pieces} pieces and lines, more than 2000")]
-    TooManyPieces { pieces: u32 },
-    #[error("out of memory")]
-    Memory,
-}
 
 /// The most pieces and auxiliary lines of a pattern.
-const MOST: u32 = 2000;
-
-fn crease_kind(kind: Kind) -> bool
-    ensures { result ≡ is_crease_kind kind }
-{
-    match kind {
-        Kind::Mountain | Kind::Valley => true,
-        Kind::Edge | Kind::Aux => false,
-    }
-}
+const MOST: usize = 2000;
 
 fn outside(place: Place) -> bool
     ensures { result ≡ is_outside place }
@@ -61,34 +37,198 @@ fn on_sheet(sheet: &Sheet, s: &Segment) -> bool
     !outside(sheet.place(s.from())) && !outside(sheet.place(s.to()))
 }
 
-// Whether each common point of a segment with a piece is an end of both.
-fn meets_each(pieces: &[Piece], s: &Segment) -> bool
-    ensures { result ≡ meets_all pieces.now (stretch_of s.now) }
+// Whether both ends of `u` are on `s`.
+fn covering(s: &Segment, u: &Segment) -> bool
+    ensures { result ≡ covers (stretch_of s.now) (stretch_of u.now) }
 {
-    for piece in pieces {
-        if !meets_at_ends(s, &piece.segment) {
-            return false;
-        }
-    }
-    true
+    on_segment(u.from(), s) && on_segment(u.to(), s)
 }
 
-// Why a segment is not added, the first cause.
-fn refusal(pattern: &Pattern, s: &Segment) -> Option<StoreFault>
-    ensures { result ≡ segment_refusal pattern.now (stretch_of s.now) }
+// The pieces that the segment does not touch.
+fn keep_untouched(alloc: Global, pieces: &[Piece], s: &Segment) -> Result<Vec<Piece>, AllocError>
+    ensures { IfOk result (λ kept. kept.items ≡ untouched (stretch_of s.now) pieces.now) }
 {
-    let pieces = pattern.pieces();
-    let count = pattern.size() + 1;
+    let mut kept = Vec::with_capacity(alloc, pieces.len())?;
+    for piece in pieces {
+        if !share_point(s, &piece.segment) {
+            kept.push(*piece)?;
+        }
+    }
+    Ok(kept)
+}
+
+// Appends the pieces that the segment does not cover.
+fn push_uncovered(rests: &mut Vec<Piece>, s: &Segment, pieces: &[Piece]) -> Result<(), AllocError>
+    ensures { OnOk result (rests.new.items ≡ rests.old.items ++ uncovered (stretch_of s.now) pieces.now) }
+{
+    for piece in pieces {
+        if !covering(s, &piece.segment) {
+            rests.push(*piece)?;
+        }
+    }
+    Ok(())
+}
+
+// Appends the parts of a piece that the segment does not cover.
+fn push_rest(
+    rests: &mut Vec<Piece>,
+    s: &Segment,
+    cuts: &[Point],
+    piece: &Piece,
+) -> Result<(), AllocError>
+    ensures { OnOk result (rests.new.items ≡ rests.old.items ++ rest_of (stretch_of s.now) cuts.now piece.now) }
+{
+    let parts = cut_at(*rests.allocator(), piece, cuts)?;
+    push_uncovered(rests, s, parts.as_slice())
+}
+
+// What is left of the pieces that the segment touches.
+fn cut_rests(
+    alloc: Global,
+    pieces: &[Piece],
+    s: &Segment,
+    cuts: &[Point],
+) -> Result<Vec<Piece>, AllocError>
+    ensures { IfOk result (λ rests. rests.items ≡ rests_of (stretch_of s.now) cuts.now pieces.now) }
+{
+    let mut rests = Vec::new(alloc);
+    for piece in pieces {
+        if share_point(s, &piece.segment) {
+            push_rest(&mut rests, s, cuts, piece)?;
+        }
+    }
+    Ok(rests)
+}
+
+// The pieces once a segment is added that is cut at these points.
+fn cut_in(
+    alloc: Global,
+    pieces: &[Piece],
+    kind: Kind,
+    s: &Segment,
+    cuts: &[Point],
+) -> Result<Vec<Piece>, AllocError>
+    ensures { IfOk result (λ all. all.items ≡ pieces_with pieces.now kind s.now cuts.now) }
+{
+    let mut news = cut_rests(alloc, pieces, s, cuts)?;
+    let parts = cut_at(alloc, &Piece { kind, segment: *s }, cuts)?;
+    news.extend_from_slice(parts.as_slice())?;
+    let mut all = keep_untouched(alloc, pieces, s)?;
+    place_pieces(&mut all, news.as_slice())?;
+    Ok(all)
+}
+
+// A pattern of these pieces on the sheet of another, with its auxiliary lines.
+fn with_pieces(pattern: &Pattern, alloc: Global, pieces: Vec<Piece>) -> Result<Pattern, AllocError>
+    requires { IsPattern (record { corners = pattern.now.corners; pieces = pieces.items; aux = pattern.now.aux }) }
+    ensures { IfOk result (λ new. new ≡ record { corners = pattern.now.corners; pieces = pieces.items; aux = pattern.now.aux }) }
+{
+    let sheet = pattern.sheet().copy()?;
+    let aux = Vec::from_slice(alloc, pattern.aux())?;
+    Ok(Pattern::of(sheet, pieces, aux))
+}
+
+// A pattern of these auxiliary lines on the sheet of another, with its pieces.
+fn with_lines(pattern: &Pattern, alloc: Global, aux: Vec<Segment>) -> Result<Pattern, AllocError>
+    requires { IsPattern (record { corners = pattern.now.corners; pieces = pattern.now.pieces; aux = aux.items }) }
+    ensures { IfOk result (λ new. new ≡ record { corners = pattern.now.corners; pieces = pattern.now.pieces; aux = aux.items }) }
+{
+    let sheet = pattern.sheet().copy()?;
+    let pieces = Vec::from_slice(alloc, pattern.pieces())?;
+    Ok(Pattern::of(sheet, pieces, aux))
+}
+
+fn add_cut(
+    alloc: Global,
+    pattern: &Pattern,
+    kind: Kind,
+    s: &Segment,
+    cuts: &[Point],
+) -> Result<Pattern, StoreFault>
+    requires sheet { IsTrue (is_sheet pattern.now.corners) }
+    requires kind { IsTrue (is_crease_kind kind) }
+    requires on_sheet { IsTrue (is_on_sheet pattern.now.corners (stretch_of s.now)) }
+    requires inside { IsFalse (is_within_side pattern.now.corners (stretch_of s.now)) }
+    requires cuts { cuts_of s.now pattern.now.pieces ≡ Ok cuts.now }
+    ensures { IsAnswer result (if_it_fits (with_crease pattern.now kind s.now cuts.now)) }
+{
+    let Ok(pieces) = cut_in(alloc, pattern.pieces(), kind, s, cuts) else {
+        return Err(StoreFault::Memory);
+    };
+    let size = pieces.as_slice().len() + pattern.aux().len();
+    if size > MOST {
+        return Err(StoreFault::TooManyPieces {
+            pieces: size as u32,
+        });
+    }
+    match with_pieces(pattern, alloc, pieces) {
+        Ok(new) => Ok(new),
+        Err(_) => Err(StoreFault::Memory),
+    }
+}
+
+fn add_crease(
+    alloc: Global,
+    pattern: &Pattern,
+    kind: Kind,
+    s: &Segment,
+) -> Result<Pattern, StoreFault>
+    requires { IsTrue (is_crease_kind kind) }
+    ensures { IsAnswer result (crease_added pattern.now kind s.now) }
+{
     if !on_sheet(pattern.sheet(), s) {
-        Some(StoreFault::OutsideSheet)
-    } else if pattern.sheet().on_border(s) {
-        Some(StoreFault::OnBorder)
-    } else if !meets_each(pieces, s) {
-        Some(StoreFault::NotYet)
-    } else if count > MOST {
-        Some(StoreFault::TooManyPieces { pieces: count })
-    } else {
-        None
+        return Err(StoreFault::OutsideSheet);
+    }
+    if pattern.sheet().on_border(s) {
+        return Err(StoreFault::OnBorder);
+    }
+    match cut_points(alloc, s, pattern.pieces()) {
+        Ok(cuts) => add_cut(alloc, pattern, kind, s, cuts.as_slice()),
+        Err(SplitFault::OutOfRange { piece }) => Err(StoreFault::Crossing { piece }),
+        Err(SplitFault::Memory) => Err(StoreFault::Memory),
+    }
+}
+
+// The auxiliary lines with one more.
+fn lines_with(alloc: Global, pattern: &Pattern, s: &Segment) -> Result<Vec<Segment>, AllocError>
+    ensures { IfOk result (λ lines. lines.items ≡ placed line_at pattern.now.aux s.now) }
+{
+    let mut lines = Vec::with_capacity(alloc, pattern.aux().len() + 1)?;
+    lines.extend_from_slice(pattern.aux())?;
+    place_line(&mut lines, s)?;
+    Ok(lines)
+}
+
+fn add_line(alloc: Global, pattern: &Pattern, s: &Segment) -> Result<Pattern, StoreFault>
+    ensures { IsAnswer result (line_added pattern.now s.now) }
+{
+    if !on_sheet(pattern.sheet(), s) {
+        return Err(StoreFault::OutsideSheet);
+    }
+    let Ok(lines) = lines_with(alloc, pattern, s) else {
+        return Err(StoreFault::Memory);
+    };
+    let size = pattern.pieces().len() + lines.as_slice().len();
+    if size > MOST {
+        return Err(StoreFault::TooManyPieces {
+            pieces: size as u32,
+        });
+    }
+    match with_lines(pattern, alloc, lines) {
+        Ok(new) => Ok(new),
+        Err(_) => Err(StoreFault::Memory),
+    }
+}
+
+fn add_edge(pattern: &Pattern, s: &Segment) -> Result<Pattern, StoreFault>
+    ensures { IsAnswer result (edge_added pattern.now s.now) }
+{
+    if !pattern.sheet().on_border(s) {
+        return Err(StoreFault::EdgeOffBorder);
+    }
+    match pattern.copy() {
+        Ok(new) => Ok(new),
+        Err(_) => Err(StoreFault::Memory),
     }
 }
 
@@ -97,33 +237,13 @@ fn add_segment(
     pattern: &Pattern,
     kind: Kind,
     s: &Segment,
-) -> Result<Pattern, AllocError>
-    requires kind { IsTrue (is_crease_kind kind) }
-    requires addable { segment_refusal pattern.now (stretch_of s.now) ≡ None }
-    ensures { IfOk result (λ new. new ≡ with_crease pattern.now kind s.now) }
-{
-    let piece = Piece { kind, segment: *s };
-    let pieces = insert_piece(alloc, pattern.pieces(), &piece)?;
-    let aux = Vec::from_slice(alloc, pattern.aux())?;
-    let sheet = pattern.sheet().copy()?;
-    Ok(Pattern::of(sheet, pieces, aux))
-}
-
-fn add_or_refuse(
-    alloc: Global,
-    pattern: &Pattern,
-    kind: Kind,
-    s: &Segment,
 ) -> Result<Pattern, StoreFault>
-    requires { IsTrue (is_crease_kind kind) }
-    ensures { IsAnswer result (refused_or (segment_refusal pattern.now (stretch_of s.now)) (with_crease pattern.now kind s.now)) }
+    ensures { IsAnswer result (segment_added pattern.now kind s.now) }
 {
-    match refusal(pattern, s) {
-        Some(fault) => Err(fault),
-        None => match add_segment(alloc, pattern, kind, s) {
-            Ok(new) => Ok(new),
-            Err(_) => Err(StoreFault::Memory),
-        },
+    match kind {
+        Kind::Edge => add_edge(pattern, s),
+        Kind::Mountain | Kind::Valley => add_crease(alloc, pattern, kind, s),
+        Kind::Aux => add_line(alloc, pattern, s),
     }
 }
 
@@ -138,8 +258,9 @@ fn no_segment(from: &Point, to: &Point) -> StoreFault
     }
 }
 
-/// The pattern with one more crease, a mountain or a valley that meets the old pieces at ends alone.
-#[tactic(auto, unfolding(crate::specs::Uncut::add_of))]
+/// The pattern with one more line: a crease, which cuts and is cut and takes the place of what it covers, or an auxiliary
+/// line. An edge of the sheet changes nothing.
+#[tactic(auto, unfolding(crate::specs::Adding::add_of))]
 pub fn add(
     alloc: Global,
     pattern: &Pattern,
@@ -149,11 +270,8 @@ pub fn add(
 ) -> Result<Pattern, StoreFault>
     ensures { IsAnswer result (add_of pattern.now kind from.now to.now) }
 {
-    if !crease_kind(kind) {
-        return Err(StoreFault::NotYet);
-    }
     match Segment::new(from, to) {
-        Ok(s) => add_or_refuse(alloc, pattern, kind, &s),
+        Ok(s) => add_segment(alloc, pattern, kind, &s),
         Err(_) => Err(no_segment(from, to)),
     }
 }

@@ -1,15 +1,9 @@
-//! What adding gives. These functions do nothing: each contract is a law of the patterns.
+//! What adding and loading give. These functions do nothing: each contract is a law of the patterns.
 
-ghost use Rattle.crease_store.specs.Laws.{UncutIsAdded, AcceptedIsAdded, AddedMeet, AddedIsOne};
+ghost use Rattle.crease_store.specs.Laws.{AcceptedIsAdded, AddedMeet, AddedIsOne};
+ghost use Rattle.crease_store.specs.OwnLines.{OwnLinesAreLoaded};
 
-/// A crease that meets the old pieces at ends alone, and is not refused, is added as one more piece: the pieces are then
-/// those that the vertices and the covering give.
-#[tactic(auto, using(crate::proofs::AddLaws::uncut_is_added))]
-pub fn uncut_is_added()
-    ensures { UncutIsAdded }
-{}
-
-/// Where a crease between two points is accepted, the segment between them is added.
+/// Where a line between two points is accepted, the segment between them is added.
 pub fn accepted_is_added()
     ensures { AcceptedIsAdded }
 {}
@@ -24,4 +18,9 @@ pub fn added_meet()
 #[tactic(auto, using(crate::proofs::AddLaws::added_is_one))]
 pub fn added_is_one()
     ensures { AddedIsOne }
+{}
+
+/// The lines of a pattern, put to load where its sheet is in force, give that pattern again.
+pub fn own_lines_are_loaded()
+    ensures { OwnLinesAreLoaded }
 {}

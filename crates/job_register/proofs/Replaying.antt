@@ -1,12 +1,18 @@
 -- Records are determined by their commands, and rows computed by the definitions.
-use Rattle.std.proofs.Common.{◌≡◌, List, [], ◌∷◌, refl, ap, ap₂, ◌∙◌}
+use Rattle.std.proofs.Common.{◌≡◌, List, [], ◌∷◌, refl, ap₂}
 use Rattle.plane_geometry.specs.Direction.{direction_of}
-use Rattle.crease_store.specs.Uncut.{add_of}
+use Rattle.crease_model.specs.NewSheet.{sheet_of}
+use Rattle.line_split.specs.Cuts.{cuts_of}
+use Rattle.line_split.specs.Parts.{parts_of}
+use Rattle.crease_store.specs.Adding.{add_of}
+use Rattle.crease_store.specs.Changed.{delete_of, set_of}
+use Rattle.crease_store.specs.Merged.{is_loose, next_piece, merged_from, merge_of}
+use Rattle.crease_store.specs.Loading.{load_of}
 use Rattle.job_register.specs.declared.session.Event.{Event}
 use Rattle.job_register.specs.declared.session.Event.TheVariants.{Made}
 use Rattle.job_register.specs.Machine.{State, first_state, answer}
 use Rattle.job_register.specs.Legal.{IsLegalFrom, commands_in}
-use Rattle.job_register.specs.Replay.{record_from, LegalRecordsAreReplayed, FirstRow, RedoRow, CrossingRow, RefusalRow}
+use Rattle.job_register.specs.Replay.{record_from, LegalRecordsAreReplayed, FirstRow, RedoRow, RefusalRow, MergingRow, SheetRow, LoadRow}
 
 replayed_from : (s : State) (es : List Event) → IsLegalFrom s es → es ≡ record_from s (commands_in es)
 replayed_from s [] legal = refl
@@ -17,17 +23,25 @@ pub legal_records_are_replayed : LegalRecordsAreReplayed
 legal_records_are_replayed es legal = replayed_from first_state es legal
 
 pub first_row : FirstRow
-unfolding first_state add_of direction_of
+unfolding first_state add_of direction_of cuts_of parts_of delete_of set_of merge_of is_loose next_piece merged_from sheet_of load_of
 first_row = refl
 
 pub redo_row : RedoRow
-unfolding first_state add_of direction_of
+unfolding first_state add_of direction_of cuts_of parts_of delete_of set_of merge_of is_loose next_piece merged_from sheet_of load_of
 redo_row = refl
 
-pub crossing_row : CrossingRow
-unfolding first_state add_of direction_of
-crossing_row = refl
-
 pub refusal_row : RefusalRow
-unfolding first_state add_of direction_of
+unfolding first_state add_of direction_of cuts_of parts_of delete_of set_of merge_of is_loose next_piece merged_from sheet_of load_of
 refusal_row = refl
+
+pub merging_row : MergingRow
+unfolding first_state add_of direction_of cuts_of parts_of delete_of set_of merge_of is_loose next_piece merged_from sheet_of load_of
+merging_row = refl
+
+pub sheet_row : SheetRow
+unfolding first_state add_of direction_of cuts_of parts_of delete_of set_of merge_of is_loose next_piece merged_from sheet_of load_of
+sheet_row = refl
+
+pub load_row : LoadRow
+unfolding first_state add_of direction_of cuts_of parts_of delete_of set_of merge_of is_loose next_piece merged_from sheet_of load_of
+load_row = refl

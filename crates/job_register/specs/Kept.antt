@@ -3,7 +3,6 @@
 use Rattle.std.specs.Prelude.{◌≡◌, Bool, List}
 use Rattle.undo_journal.specs.Versions.{JournalView}
 use Rattle.job_register.specs.declared.session.Event.{Event}
-use Rattle.job_register.specs.Machine.{State}
 use Rattle.job_register.specs.Legal.{IsLegal, state_after, has_refusal}
 
 pub record Keeps (journal : JournalView) (refused : Bool) (events : List Event) : Type 0 where

@@ -1,9 +1,9 @@
 -- Records of a session, and which of them are legal.
-use Rattle.std.specs.Prelude.{◌≡◌, Bool, true, false, ◌||◌, List, [], ◌∷◌, map, ⊤}
+use Rattle.std.specs.Prelude.{◌≡◌, Bool, true, false, List, [], ◌∷◌, map, ⊤}
 use Rattle.std.specs.List.{list_any}
 use Rattle.script_lang.specs.declared.command.Command.{Command}
 use Rattle.script_lang.specs.declared.reply.Reply.{Reply}
-use Rattle.script_lang.specs.declared.reply.Reply.TheVariants.{Version, Listed, Refused}
+use Rattle.script_lang.specs.declared.reply.Reply.TheVariants.{Version, Listed, Checked, Refused}
 use Rattle.job_register.specs.declared.session.Event.{Event}
 use Rattle.job_register.specs.declared.session.Event.TheVariants.{Made}
 use Rattle.job_register.specs.Machine.{State, first_state, answer}
@@ -39,6 +39,7 @@ commands_in es = map command_in es
 abbrev pub is_refusal : Reply → Bool
 is_refusal (Version version pieces) = false
 is_refusal (Listed version pieces) = false
+is_refusal (Checked version faults) = false
 is_refusal (Refused refusal) = true
 
 -- some reply is a refusal

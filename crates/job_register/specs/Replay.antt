@@ -1,10 +1,14 @@
 -- The record that the machine makes of a list of commands.
-use Rattle.std.specs.Prelude.{◌≡◌, pos, negsuc, List, [], ◌∷◌, map}
+use Rattle.std.specs.Prelude.{◌≡◌, ℕ, pos, negsuc, List, [], ◌∷◌, map}
+use Rattle.plane_geometry.specs.declared.Point.{Point}
 use Rattle.script_lang.specs.declared.command.Command.{Command}
-use Rattle.script_lang.specs.declared.command.Command.TheVariants.{Add, Undo, Redo, List as ListCommand, Bad}
-use Rattle.crease_model.specs.declared.Kind.TheVariants.{Mountain, Valley, Aux}
+use Rattle.script_lang.specs.declared.command.Command.TheVariants.{Add, Delete, Set, Merge, Clear, Sheet, Load, Undo, Redo, List as ListCommand}
+use Rattle.crease_model.specs.declared.Kind.TheVariants.{Edge, Mountain, Valley}
 use Rattle.crease_model.specs.Sheet.{whole_point}
-use Rattle.cp_text.specs.declared.line.LineFault.TheVariants.{UnknownWord}
+use Rattle.crease_store.specs.declared.faults.StoreFault.TheVariants.{BadDirection}
+use Rattle.crease_store.specs.declared.loading.LoadLine.{LoadLine}
+use Rattle.script_lang.specs.declared.block.LoadStop.TheVariants.{Ended, Unended}
+use Rattle.script_lang.specs.declared.reply.LoadCause.TheVariants as cause
 use Rattle.script_lang.specs.declared.reply.Reply.{Reply}
 use Rattle.script_lang.specs.declared.reply.Reply.TheVariants.{Version, Listed, Refused}
 use Rattle.script_lang.specs.declared.reply.Refusal.TheVariants as refusal
@@ -47,21 +51,41 @@ RedoRow =
     replies_to (mountain ∷ Undo ∷ valley ∷ Undo ∷ Redo ∷ Redo ∷ [])
     ≡ Version 1 1 ∷ Version 0 0 ∷ Version 2 1 ∷ Version 0 0 ∷ Version 2 1 ∷ Refused refusal.NothingToRedo ∷ []
 
--- creases that cross or touch inside are not added yet
-abbrev pub CrossingRow : Type 0
-CrossingRow =
-    replies_to (mountain
-    ∷ Add Mountain (whole_point (negsuc 199) (pos 0)) (whole_point (pos 200) (pos 0))
-    ∷ Add Mountain (whole_point (pos 0) (pos 0)) (whole_point (pos 50) (pos 50))
-    ∷ Bad UnknownWord ∷ Undo ∷ Undo ∷ [])
-    ≡ Version 1 1 ∷ Refused refusal.NotYet ∷ Refused refusal.NotYet ∷ Refused refusal.UnknownWord ∷ Version 0 0 ∷ Refused refusal.NothingToUndo ∷ []
-
--- each refusal of a line to add
+-- each refusal of a line to add, and of a piece to take away
 abbrev pub RefusalRow : Type 0
 RefusalRow =
     replies_to (Add Mountain (whole_point (pos 0) (pos 0)) (whole_point (pos 0) (pos 0))
     ∷ Add Valley (whole_point (pos 0) (pos 0)) (whole_point (pos 100) (pos 50))
+    ∷ Add Edge (whole_point (pos 0) (pos 0)) (whole_point (pos 100) (pos 0))
     ∷ Add Valley (whole_point (pos 0) (pos 0)) (whole_point (pos 300) (pos 0))
     ∷ Add Valley (whole_point (negsuc 199) (negsuc 199)) (whole_point (pos 200) (negsuc 199))
-    ∷ Add Aux (whole_point (pos 0) (pos 0)) (whole_point (pos 100) (pos 0)) ∷ [])
-    ≡ Refused refusal.ZeroLength ∷ Refused refusal.BadDirection ∷ Refused refusal.OutsideSheet ∷ Refused refusal.OnBorder ∷ Refused refusal.NotYet ∷ []
+    ∷ Delete (whole_point (pos 0) (pos 0)) (whole_point (pos 1) (pos 0)) ∷ [])
+    ≡ Refused refusal.ZeroLength ∷ Refused refusal.BadDirection ∷ Refused refusal.EdgeOffBorder ∷ Refused refusal.OutsideSheet ∷ Refused refusal.OnBorder ∷ Refused refusal.NoSuchPiece ∷ []
+
+-- the newest kind wins where a crease lies on another; set and merge make one piece of it again
+abbrev pub MergingRow : Type 0
+MergingRow =
+    replies_to (mountain
+    ∷ Add Valley (whole_point (pos 0) (negsuc 99)) (whole_point (pos 0) (pos 100))
+    ∷ Set Mountain (whole_point (pos 0) (negsuc 99)) (whole_point (pos 0) (pos 100))
+    ∷ Merge ∷ Clear ∷ [])
+    ≡ Version 1 1 ∷ Version 2 3 ∷ Version 3 3 ∷ Version 4 1 ∷ Version 5 0 ∷ []
+
+-- a new sheet, its corners counterclockwise, and what is refused
+abbrev pub SheetRow : Type 0
+SheetRow =
+    replies_to (Sheet (whole_point (pos 0) (pos 0) ∷ whole_point (pos 0) (pos 100) ∷ whole_point (pos 100) (pos 0) ∷ [])
+    ∷ Sheet (whole_point (pos 0) (pos 0) ∷ whole_point (pos 100) (pos 0) ∷ whole_point (pos 0) (pos 100) ∷ [])
+    ∷ Add Mountain (whole_point (pos 0) (pos 0)) (whole_point (pos 50) (pos 50)) ∷ [])
+    ≡ Refused (refusal.BadSheet 1) ∷ Version 1 0 ∷ Version 2 1 ∷ []
+
+abbrev pub line_of : ℕ → Point → Point → LoadLine
+line_of number from to = record { number = number; kind = Mountain; from = from; to = to }
+
+-- a block is one version, or none
+abbrev pub LoadRow : Type 0
+LoadRow =
+    replies_to (Load (line_of 1 (whole_point (pos 0) (negsuc 199)) (whole_point (pos 0) (pos 200)) ∷ line_of 2 (whole_point (pos 0) (pos 0)) (whole_point (pos 100) (pos 50)) ∷ []) Ended
+    ∷ Load (line_of 1 (whole_point (pos 0) (negsuc 199)) (whole_point (pos 0) (pos 200)) ∷ []) Unended
+    ∷ Load (line_of 1 (whole_point (pos 0) (negsuc 199)) (whole_point (pos 0) (pos 200)) ∷ []) Ended ∷ [])
+    ≡ Refused (refusal.LoadLine 2 (cause.Add BadDirection)) ∷ Refused refusal.LoadUnended ∷ Version 1 1 ∷ []

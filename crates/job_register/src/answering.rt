@@ -1,48 +1,25 @@
 //! The answer to one command.
 
-ghost use Rattle.std.specs.Prelude.{◌≡◌, ◌++◌, ◌↔◌, IfOk, OnOk, OnErr, IfSome, IsNone};
+ghost use Rattle.std.specs.Prelude.{◌≡◌, ◌≢◌, IfOk, MatchResult, OnErr, IsTrue};
+ghost use Rattle.std.specs.declared.result.Result.{Result};
+ghost use Rattle.crease_model.specs.View.{PatternView};
+ghost use Rattle.crease_store.specs.declared.faults.StoreFault.{StoreFault};
+ghost use Rattle.crease_model.specs.NewSheet.{sheet_of};
 ghost use Rattle.crease_model.specs.Rules.{size_of};
-ghost use Rattle.crease_store.specs.Uncut.{add_of};
-ghost use Rattle.job_register.specs.Machine.{answer, changed, moved, current_pattern_of, committed_answer, line_refusal, store_refusal};
+ghost use Rattle.crease_store.specs.Answer.{IsAnswer};
+ghost use Rattle.crease_store.specs.Loading.{load_of};
+ghost use Rattle.script_lang.specs.Script.{meets_condition};
+ghost use Rattle.job_register.specs.Machine.{answer, changed, moved, current_pattern_of, committed_answer, sheet_answer, load_answer, stopped};
 
-use cp_text::LineFault;
-use crease_model::{Kind, Pattern};
-use crease_store::{StoreFault, add};
-use plane_geometry::Point;
-use script_lang::{Command, Refusal, Reply};
+use crease_model::{Pattern, Sheet, SheetFault};
+use crease_store::{LoadStoreFault, StoreFault, add, clear, delete, load, merge, set_kind};
+use script_lang::{
+    Command, Corners, LoadCause, LoadLines, LoadStop, Refusal, Reply, refusal_of_line,
+    refusal_of_store,
+};
 use std::alloc::{AllocError, Global};
 use undo_journal::{Journal, JournalFault};
-
-fn refusal_of_line(fault: LineFault) -> Refusal
-    ensures { result ≡ line_refusal fault }
-{
-    match fault {
-        LineFault::NotYet => Refusal::NotYet,
-        LineFault::LongLine => Refusal::LongLine,
-        LineFault::UnknownWord => Refusal::UnknownWord,
-        LineFault::BadKind => Refusal::BadKind,
-        LineFault::WrongCount => Refusal::WrongCount,
-        LineFault::BadNumber { place } => Refusal::BadNumber { place },
-        LineFault::NotExact { place } => Refusal::NotExact { place },
-        LineFault::OutOfRange { place } => Refusal::OutOfRange { place },
-    }
-}
-
-// The refusal of a change; None for want of memory, which has none.
-fn refusal_of_store(fault: StoreFault) -> Option<Refusal>
-    ensures some { IfSome result (λ refusal. refusal ≡ store_refusal fault) }
-    ensures none { IsNone result ↔ (fault ≡ StoreFault.Memory) }
-{
-    match fault {
-        StoreFault::NotYet => Some(Refusal::NotYet),
-        StoreFault::ZeroLength => Some(Refusal::ZeroLength),
-        StoreFault::BadDirection => Some(Refusal::BadDirection),
-        StoreFault::OutsideSheet => Some(Refusal::OutsideSheet),
-        StoreFault::OnBorder => Some(Refusal::OnBorder),
-        StoreFault::TooManyPieces { pieces } => Some(Refusal::TooManyPieces { pieces }),
-        StoreFault::Memory => None,
-    }
-}
+use vertex_checks::check;
 
 /// The current version and the size of its pattern.
 fn current_version(journal: &Journal) -> (u32, u32)
@@ -73,23 +50,86 @@ fn commit(journal: &mut Journal, pattern: Pattern) -> Result<Reply, AllocError>
     }
 }
 
-fn add_crease(
-    alloc: Global,
+// Commits the pattern of a change, or answers why there is none.
+fn commit_change(
     journal: &mut Journal,
-    kind: Kind,
-    from: &Point,
-    to: &Point,
+    change: Result<Pattern, StoreFault>,
 ) -> Result<Reply, AllocError>
-    ensures ok { IfOk result (λ reply. record { reply = reply; state = record { journal = journal.new } }
-        ≡ changed (record { journal = journal.old }) (add_of (current_pattern_of journal.old) kind from.now to.now)) }
+    ensures ok { IfOk result (λ reply. (defined : Result PatternView StoreFault) → IsAnswer change defined
+        → record { reply = reply; state = record { journal = journal.new } } ≡ changed (record { journal = journal.old }) defined) }
     ensures err { OnErr result (journal.new ≡ journal.old) }
 {
-    match add(alloc, journal.current_pattern(), kind, from, to) {
+    match change {
         Ok(pattern) => commit(journal, pattern),
         Err(fault) => match refusal_of_store(fault) {
             Some(refusal) => Ok(Reply::Refused { refusal }),
             None => Err(AllocError),
         },
+    }
+}
+
+fn new_sheet(alloc: Global, journal: &mut Journal, corners: &Corners) -> Result<Reply, AllocError>
+    ensures ok { IfOk result (λ reply. record { reply = reply; state = record { journal = journal.new } }
+        ≡ sheet_answer (record { journal = journal.old }) (sheet_of corners.now)) }
+    ensures err { OnErr result (journal.new ≡ journal.old) }
+{
+    match Sheet::new(alloc, corners.as_slice()) {
+        Ok(sheet) => commit(journal, Pattern::empty(sheet)),
+        Err(SheetFault::BadSheet { corner }) => Ok(Reply::Refused {
+            refusal: Refusal::BadSheet { corner },
+        }),
+        Err(SheetFault::Memory) => Err(AllocError),
+    }
+}
+
+// Commits a block that is all added, by how it ends.
+fn stop(journal: &mut Journal, pattern: Pattern, end: LoadStop) -> Result<Reply, AllocError>
+    ensures ok { IfOk result (λ reply. record { reply = reply; state = record { journal = journal.new } }
+        ≡ stopped (record { journal = journal.old }) end pattern) }
+    ensures err { OnErr result (journal.new ≡ journal.old) }
+{
+    match end {
+        LoadStop::Ended => commit(journal, pattern),
+        LoadStop::Bad { number, fault } => Ok(Reply::Refused {
+            refusal: Refusal::LoadLine {
+                number,
+                cause: LoadCause::Line { fault },
+            },
+        }),
+        LoadStop::Unended => Ok(Reply::Refused {
+            refusal: Refusal::LoadUnended,
+        }),
+    }
+}
+
+// The refusal of a line of a block; without memory there is none.
+fn refuse_line(number: u32, fault: StoreFault) -> Result<Reply, AllocError>
+    ensures { MatchResult result (λ reply. (fault ≢ StoreFault.Memory) × (reply ≡ Reply.Refused (Refusal.LoadLine number (LoadCause.Add fault)))) (λ _. fault ≡ StoreFault.Memory) }
+{
+    match fault {
+        StoreFault::Memory => Err(AllocError),
+        _ => Ok(Reply::Refused {
+            refusal: Refusal::LoadLine {
+                number,
+                cause: LoadCause::Add { fault },
+            },
+        }),
+    }
+}
+
+fn load_block(
+    alloc: Global,
+    journal: &mut Journal,
+    lines: &LoadLines,
+    end: LoadStop,
+) -> Result<Reply, AllocError>
+    ensures ok { IfOk result (λ reply. record { reply = reply; state = record { journal = journal.new } }
+        ≡ load_answer (record { journal = journal.old }) end (load_of (current_pattern_of journal.old) lines.now)) }
+    ensures err { OnErr result (journal.new ≡ journal.old) }
+{
+    match load(alloc, journal.current_pattern(), lines.as_slice()) {
+        Ok(pattern) => stop(journal, pattern, end),
+        Err(LoadStoreFault { number, fault }) => refuse_line(number, fault),
     }
 }
 
@@ -117,24 +157,64 @@ fn redo(journal: &mut Journal) -> Reply
     }
 }
 
+fn count_faults(alloc: Global, journal: &Journal) -> Result<Reply, AllocError>
+    ensures { IfOk result (λ reply. record { reply = reply; state = record { journal = journal.now } }
+        ≡ answer (record { journal = journal.now }) Command.Check) }
+{
+    let faults = check(alloc, journal.current_pattern())?;
+    Ok(Reply::Checked {
+        version: journal.current(),
+        faults: faults.as_slice().len() as u32,
+    })
+}
+
+fn list(journal: &Journal) -> Reply
+    ensures { record { reply = result; state = record { journal = journal.now } }
+        ≡ answer (record { journal = journal.now }) Command.List }
+{
+    let (version, pieces) = current_version(journal);
+    Reply::Listed { version, pieces }
+}
+
 /// Answers a command. Without memory the journal stays as it was.
 pub fn answer_command(
     alloc: Global,
     journal: &mut Journal,
     command: &Command,
 ) -> Result<Reply, AllocError>
+    requires { IsTrue (meets_condition command.now) }
     ensures ok { IfOk result (λ reply. record { reply = reply; state = record { journal = journal.new } }
         ≡ answer (record { journal = journal.old }) command.now) }
     ensures err { OnErr result (journal.new ≡ journal.old) }
 {
+    let pattern = journal.current_pattern();
     match command {
-        Command::Add { kind, from, to } => add_crease(alloc, journal, *kind, from, to),
+        Command::Add { kind, from, to } => {
+            let change = add(alloc, pattern, *kind, from, to);
+            commit_change(journal, change)
+        }
+        Command::Delete { from, to } => {
+            let change = delete(alloc, pattern, from, to);
+            commit_change(journal, change)
+        }
+        Command::Set { kind, from, to } => {
+            let change = set_kind(alloc, pattern, *kind, from, to);
+            commit_change(journal, change)
+        }
+        Command::Merge => {
+            let change = merge(alloc, pattern);
+            commit_change(journal, change)
+        }
+        Command::Clear => {
+            let change = clear(pattern);
+            commit_change(journal, change)
+        }
+        Command::Sheet { corners } => new_sheet(alloc, journal, corners),
+        Command::Load { lines, stop } => load_block(alloc, journal, lines, *stop),
         Command::Undo => Ok(undo(journal)),
         Command::Redo => Ok(redo(journal)),
-        Command::List => {
-            let (version, pieces) = current_version(journal);
-            Ok(Reply::Listed { version, pieces })
-        }
+        Command::List => Ok(list(journal)),
+        Command::Check => count_faults(alloc, journal),
         Command::Bad { fault } => Ok(Reply::Refused {
             refusal: refusal_of_line(*fault),
         }),

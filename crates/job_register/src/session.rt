@@ -1,6 +1,7 @@
 //! The session and its record.
 
-ghost use Rattle.std.specs.Prelude.{◌≡◌, ◌++◌, ◌∷◌, [], ◌||◌, IfOk, OnOk, OnErr};
+ghost use Rattle.std.specs.Prelude.{◌≡◌, ◌++◌, ◌∷◌, [], ◌||◌, IfOk, IsTrue, OnOk, OnErr};
+ghost use Rattle.script_lang.specs.Script.{meets_condition};
 ghost use Rattle.job_register.specs.Legal.{is_refusal};
 
 use crate::answering::answer_command;
@@ -10,9 +11,10 @@ use script_lang::{Command, Reply, write_head};
 use std::alloc::{AllocError, Global};
 use std::marker::Model;
 use undo_journal::Journal;
+use vertex_checks::{check, write_faults};
 
 /// What happened in a session.
-#[derive(Clone, Copy)]
+#[derive(Drop)]
 pub enum Event {
     /// A command was answered.
     Made { command: Command, reply: Reply },
@@ -81,7 +83,8 @@ impl Session {
     ghost use Rattle.job_register.specs.View.{events_of};
     ghost use Rattle.job_register.specs.Machine.{answer};
     ghost use Rattle.job_register.specs.Legal.{IsLegal, state_after, commands_in, has_refusal};
-    ghost use Rattle.job_register.specs.Text.{text_of, reply_text, body_text};
+    ghost use Rattle.undo_journal.specs.Versions.{pattern_at};
+    ghost use Rattle.job_register.specs.Text.{text_of, reply_text, body_text, listing_text, checks_text};
 
     /// A session over version 0, the square sheet with nothing on it.
     #[tactic(auto, unfolding(crate::specs::Machine::first_state))]
@@ -98,6 +101,7 @@ impl Session {
 
     /// Answers a command, and adds it with its reply to the record. Without memory the session stays as it was.
     pub fn step(&mut self, alloc: Global, command: Command) -> Result<Reply, AllocError>
+        requires { IsTrue (meets_condition command) }
         ensures reply { IfOk result (λ reply. reply ≡ (answer (state_after self.old) command).reply) }
         ensures events { IfOk result (λ reply. self.new ≡ self.old ++ Event.Made command reply ∷ []) }
         ensures legal { IsLegal self.new }
@@ -116,8 +120,8 @@ impl Session {
         Ok(reply)
     }
 
-    /// Appends the whole text of a reply: its first line, and for a listing the lines of the listed version. Without
-    /// memory the bytes stay as they were.
+    /// Appends the whole text of a reply: its first line, for a listing the lines of the listed version, and for local
+    /// checks a line for each fault. Without memory the bytes stay as they were.
     pub fn write_text(&self, out: &mut Vec<u8>, reply: &Reply) -> Result<(), AllocError>
         ensures ok { OnOk result (out.new.items ≡ out.old.items ++ reply_text (state_after self.now) reply.now) }
         ensures err { OnErr result (out.new.items ≡ out.old.items) }
@@ -135,11 +139,32 @@ impl Session {
         ensures ok { OnOk result (out.new.items ≡ out.old.items ++ body_text (state_after self.now) reply.now) }
         ensures err { OnErr result (out.new.items ≡ out.old.items) }
     {
-        let Reply::Listed { version, .. } = *reply else {
-            return Ok(());
-        };
+        match *reply {
+            Reply::Listed { version, .. } => self.write_listing(out, version),
+            Reply::Checked { version, .. } => self.write_checks(out, version),
+            Reply::Version { .. } | Reply::Refused { .. } => Ok(()),
+        }
+    }
+
+    fn write_listing(&self, out: &mut Vec<u8>, version: u32) -> Result<(), AllocError>
+        ensures ok { OnOk result (out.new.items ≡ out.old.items ++ listing_text (pattern_at (state_after self.now).journal version)) }
+        ensures err { OnErr result (out.new.items ≡ out.old.items) }
+    {
         match self.journal.get(version) {
             Some(pattern) => write_pattern(out, pattern),
+            None => Ok(()),
+        }
+    }
+
+    fn write_checks(&self, out: &mut Vec<u8>, version: u32) -> Result<(), AllocError>
+        ensures ok { OnOk result (out.new.items ≡ out.old.items ++ checks_text (pattern_at (state_after self.now).journal version)) }
+        ensures err { OnErr result (out.new.items ≡ out.old.items) }
+    {
+        match self.journal.get(version) {
+            Some(pattern) => {
+                let faults = check(*out.allocator(), pattern)?;
+                write_faults(out, faults.as_slice())
+            }
             None => Ok(()),
         }
     }

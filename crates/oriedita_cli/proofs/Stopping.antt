@@ -1,6 +1,6 @@
 -- How runs of commands join, where all are served and where the last one stops.
-use Rattle.std.proofs.Common.{◌≡◌, ℕ, ◌+◌, ◌<◌, length, get_or, List, [], ◌∷◌, ◌++◌, Option, take, drop, refl, sym, ap, ◌∙◌, append_assoc, subst}
-use Rattle.std.proofs.lemmas.List.{append-nil, take-append-drop, take_more}
+use Rattle.std.proofs.Common.{◌≡◌, ℕ, List, [], ◌∷◌, ◌++◌, Option, take, drop, refl, sym, ap, ◌∙◌, append_assoc}
+use Rattle.std.proofs.lemmas.List.{append-nil, take-append-drop}
 use Rattle.std.specs.Io.KnownBytes.{Appends}
 use Rattle.std.proofs.KnownBytes.{Appends-nil, Appends-trans}
 use Rattle.script_lang.specs.declared.command.Command.{Command}
@@ -65,13 +65,3 @@ serves_then_stops es fs gs t u v commands more rest first second = record {
   text_is = second.text_is ∙ ap (λ xs. xs ++ (second.text ++ second.unwritten)) first.text_is ∙ append_assoc (text_of es) first.text (second.text ++ second.unwritten) ∙ ap (λ xs. text_of es ++ xs) (sym (append_assoc first.text second.text second.unwritten));
   written = Appends-trans t u v first.text second.text first.written second.written;
 }
-
--- the commands up to one, that one, and the rest
-pub one_more : (xs : List Command) (i : ℕ) (x : Command) → i < length xs → x ≡ get_or xs i x → take (i + 1) xs ≡ take i xs ++ x ∷ []
-one_more xs i x h e = take_more xs i x h ∙ ap (λ y. take i xs ++ y ∷ []) (sym e)
-
-pub around_one : (xs : List Command) (i : ℕ) (x : Command) → i < length xs → x ≡ get_or xs i x → xs ≡ take i xs ++ (x ∷ [] ++ drop (i + 1) xs)
-around_one xs i x h e =
-    sym (take-append-drop (i + 1) xs)
-    ∙ ap (λ ys. ys ++ drop (i + 1) xs) (one_more xs i x h e)
-    ∙ append_assoc (take i xs) (x ∷ []) (drop (i + 1) xs)

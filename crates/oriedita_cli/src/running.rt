@@ -12,7 +12,7 @@ ghost use Rattle.oriedita_cli.specs.Clauses.{IsAnswered, IsInput, IsOutput, ende
 use crate::serving::{Stop, serve_all};
 use job_register::{Record, Session};
 use oriedita_io::{Failed, Input, InputEnd, Sink, Source, read_all};
-use script_lang::{Command, read_script};
+use script_lang::{Commands, read_script};
 use std::alloc::{AllocError, Global};
 
 /// The exit status of a run, and its record.
@@ -78,9 +78,9 @@ fn finish<K: Sink>(session: Session, out: &mut K) -> Ended
 }
 
 // Answers the commands in a new session, and writes the replies.
-fn run_commands<K: Sink>(alloc: Global, commands: &[Command], out: &mut K) -> Ended
+fn run_commands<K: Sink>(alloc: Global, commands: Commands, out: &mut K) -> Ended
     ensures legal { IsLegal (events_of result.events) }
-    ensures input { IsAnswered result.status (events_of result.events) commands.now }
+    ensures input { IsAnswered result.status (events_of result.events) commands }
     ensures output { IsOutput result.status (events_of result.events) (K.taken out.old) (K.taken out.new) (K.finished out.new) }
     ensures status { (result.status ≡ ended_status (events_of result.events)) ⊎ ((result.status ≡ WRITE_FAILED) ⊎ (result.status ≡ NO_MEMORY)) }
     ensures cause { result.status ≡ WRITE_FAILED → Rose (K.faults out.old) (K.faults out.new) }
@@ -89,7 +89,7 @@ fn run_commands<K: Sink>(alloc: Global, commands: &[Command], out: &mut K) -> En
     let Ok(mut session) = Session::open(alloc) else {
         return ended_without(alloc, NO_MEMORY);
     };
-    match serve_all(alloc, &mut session, commands, out) {
+    match serve_all(alloc, &mut session, commands.into_vec(), out) {
         Ok(()) => finish(session, out),
         Err(Stop::Write) => Ended {
             status: WRITE_FAILED,
@@ -118,6 +118,7 @@ fn run_nothing<K: Sink>(alloc: Global, out: &mut K) -> Ended
 }
 
 fn run_bytes<K: Sink>(alloc: Global, bytes: &[u8], out: &mut K) -> Ended
+    requires { length bytes.now ≤ script_limit }
     ensures legal { IsLegal (events_of result.events) }
     ensures input { IsAnswered result.status (events_of result.events) (commands_of bytes.now) }
     ensures output { IsOutput result.status (events_of result.events) (K.taken out.old) (K.taken out.new) (K.finished out.new) }
@@ -126,7 +127,7 @@ fn run_bytes<K: Sink>(alloc: Global, bytes: &[u8], out: &mut K) -> Ended
     ensures faults_stay { K.faults out.old ≤ K.faults out.new }
 {
     match read_script(alloc, bytes) {
-        Ok(commands) => run_commands(alloc, commands.as_slice(), out),
+        Ok(commands) => run_commands(alloc, commands, out),
         Err(_) => ended_without(alloc, NO_MEMORY),
     }
 }

@@ -1,6 +1,8 @@
 //! Commands answered, and their replies written.
 
-ghost use Rattle.std.specs.Prelude.{◌≡◌, ◌∷◌, [], ◌≤◌, MatchResult};
+ghost use Rattle.std.specs.Prelude.{◌≡◌, ◌∷◌, [], ◌≤◌, IsTrue, MatchResult};
+ghost use Rattle.std.specs.List.{list_all};
+ghost use Rattle.script_lang.specs.Script.{meets_condition};
 ghost use Rattle.oriedita_io.specs.Faults.{Rose};
 ghost use Rattle.oriedita_cli.specs.Serving.{Serves, StopsIn};
 
@@ -23,16 +25,17 @@ pub fn serve<K: Sink>(
     alloc: Global,
     session: &mut Session,
     text: &mut Vec<u8>,
-    command: &Command,
+    command: Command,
     out: &mut K,
 ) -> Result<(), Stop>
+    requires { IsTrue (meets_condition command) }
     ensures serves { MatchResult result
-        (λ _. Serves session.old session.new (K.taken out.old) (K.taken out.new) (command.now ∷ []))
-        (λ _. StopsIn session.old session.new (K.taken out.old) (K.taken out.new) (command.now ∷ [])) }
+        (λ _. Serves session.old session.new (K.taken out.old) (K.taken out.new) (command ∷ []))
+        (λ _. StopsIn session.old session.new (K.taken out.old) (K.taken out.new) (command ∷ [])) }
     ensures cause { result ≡ Err Stop.Write → Rose (K.faults out.old) (K.faults out.new) }
     ensures faults_stay { K.faults out.old ≤ K.faults out.new }
 {
-    let Ok(reply) = session.step(alloc, *command) else {
+    let Ok(reply) = session.step(alloc, command) else {
         return Err(Stop::Memory);
     };
     text.clear();
@@ -49,12 +52,13 @@ pub fn serve<K: Sink>(
 pub fn serve_all<K: Sink>(
     alloc: Global,
     session: &mut Session,
-    commands: &[Command],
+    commands: Vec<Command>,
     out: &mut K,
 ) -> Result<(), Stop>
+    requires { IsTrue (list_all meets_condition commands.items) }
     ensures serves { MatchResult result
-        (λ _. Serves session.old session.new (K.taken out.old) (K.taken out.new) commands.now)
-        (λ _. StopsIn session.old session.new (K.taken out.old) (K.taken out.new) commands.now) }
+        (λ _. Serves session.old session.new (K.taken out.old) (K.taken out.new) commands.items)
+        (λ _. StopsIn session.old session.new (K.taken out.old) (K.taken out.new) commands.items) }
     ensures cause { result ≡ Err Stop.Write → Rose (K.faults out.old) (K.faults out.new) }
     ensures faults_stay { K.faults out.old ≤ K.faults out.new }
 {

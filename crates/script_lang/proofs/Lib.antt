@@ -1,1 +1,8 @@
-pub mod Lines
+pub mod Points
+pub mod Conditions
+pub mod Blocks
+pub mod Counts
+pub mod Scripts
+pub mod Printed
+pub mod Returning
+pub mod Singles

@@ -1,15 +1,20 @@
 -- The command that a line is.
-use Rattle.std.specs.Prelude.{ℕ, List, [], ◌∷◌, length, Option, None, Some, Ok, Err, nat_lt, if◌then◌else◌, codes}
+use Rattle.std.specs.Prelude.{ℕ, ◌+◌, ◌%◌, Bool, ◌&&◌, List, [], ◌∷◌, length, Option, None, Some, Ok, Err, nat_eq, nat_le, nat_lt, if◌then◌else◌, codes}
 use Rattle.std.specs.declared.result.Result.{Result}
 use Rattle.std.specs.Str.{bytes_eq}
+use Rattle.plane_geometry.specs.declared.Point.{Point}
+use Rattle.crease_model.specs.declared.Kind.{Kind}
+use Rattle.crease_model.specs.Rules.{is_crease_kind}
 use Rattle.cp_text.specs.declared.line.CpLine.{CpLine}
+use Rattle.cp_text.specs.declared.line.Ends.{Ends}
 use Rattle.cp_text.specs.declared.line.LineFault.{LineFault}
-use Rattle.cp_text.specs.declared.line.LineFault.TheVariants.{LongLine, UnknownWord, WrongCount}
+use Rattle.cp_text.specs.declared.line.LineFault.TheVariants.{LongLine, UnknownWord, BadKind, WrongCount}
 use Rattle.cp_text.specs.Digits.{is_digits}
 use Rattle.cp_text.specs.Words.{words_of}
-use Rattle.cp_text.specs.LineReading.{line_read}
+use Rattle.cp_text.specs.LineReading.{kind_of, point_read, ends_read, line_read}
+use Rattle.script_lang.specs.declared.block.LoadStop.TheVariants.{Unended}
 use Rattle.script_lang.specs.declared.command.Command.{Command}
-use Rattle.script_lang.specs.declared.command.Command.TheVariants.{Add, Undo, Redo, List as ListCommand, Bad}
+use Rattle.script_lang.specs.declared.command.Command.TheVariants.{Add, Delete, Set, Merge, Clear, Sheet, Load, Undo, Redo, List as ListCommand, Check, Bad}
 
 -- a crease line is a line to add
 abbrev pub line_command : Result CpLine LineFault → Command
@@ -21,11 +26,59 @@ abbrev pub alone : Command → List (List ℕ) → Command
 alone command [] = command
 alone command (word ∷ words) = Bad WrongCount
 
+abbrev pub delete_between : Result Ends LineFault → Command
+delete_between (Ok ends) = Delete ends.from ends.to
+delete_between (Err fault) = Bad fault
+
+abbrev pub set_between : Kind → Result Ends LineFault → Command
+set_between kind (Ok ends) = Set kind ends.from ends.to
+set_between kind (Err fault) = Bad fault
+
+-- a piece becomes a mountain or a valley
+abbrev pub set_kind : Option Kind → Result Ends LineFault → Command
+set_kind None ends = Bad BadKind
+set_kind (Some kind) ends = if is_crease_kind kind then set_between kind ends else Bad BadKind
+
+-- a kind and two ends
+abbrev pub set_words : List (List ℕ) → Command
+set_words [] = Bad WrongCount
+set_words (kind ∷ words) = if nat_eq (length words) 4 then set_kind (kind_of kind) (ends_read 2 words) else Bad WrongCount
+
+-- two words for each of 3 to 16 points
+abbrev pub is_sheet_count : ℕ → Bool
+is_sheet_count n = nat_le 6 n && nat_le n 32 && nat_eq (n % 2) 0
+
+abbrev pub with_point : Result Point LineFault → Result (List Point) LineFault → Result (List Point) LineFault
+with_point (Ok point) (Ok points) = Ok (point ∷ points)
+with_point (Ok point) (Err fault) = Err fault
+with_point (Err fault) points = Err fault
+
+-- the points of pairs of coordinates, the first of them at this place
+abbrev pub points_read : ℕ → List (List ℕ) → Result (List Point) LineFault
+points_read place [] = Ok []
+points_read place (x ∷ []) = Err WrongCount
+points_read place (x ∷ y ∷ words) = with_point (point_read place x y) (points_read (place + 2) words)
+
+abbrev pub sheet_of : Result (List Point) LineFault → Command
+sheet_of (Ok points) = Sheet points
+sheet_of (Err fault) = Bad fault
+
+abbrev pub sheet_words : List (List ℕ) → Command
+sheet_words words = if is_sheet_count (length words) then sheet_of (points_read 1 words) else Bad WrongCount
+
+-- a line `load` by itself is a block without lines and without its end
 abbrev pub word_command : List ℕ → List (List ℕ) → Command
 word_command word words =
-    if bytes_eq word (codes "undo") then alone Undo words
+    if bytes_eq word (codes "delete") then delete_between (ends_read 1 words)
+    else if bytes_eq word (codes "set") then set_words words
+    else if bytes_eq word (codes "merge") then alone Merge words
+    else if bytes_eq word (codes "clear") then alone Clear words
+    else if bytes_eq word (codes "sheet") then sheet_words words
+    else if bytes_eq word (codes "load") then alone (Load [] Unended) words
+    else if bytes_eq word (codes "undo") then alone Undo words
     else if bytes_eq word (codes "redo") then alone Redo words
     else if bytes_eq word (codes "list") then alone ListCommand words
+    else if bytes_eq word (codes "check") then alone Check words
     else Bad UnknownWord
 
 -- by the first word: a kind, or a command's word. A line of more than 1,000 bytes is not judged further.

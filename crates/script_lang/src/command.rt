@@ -1,17 +1,33 @@
 //! Commands, and how lines are judged.
 
+use crate::block::{LoadLines, LoadStop};
+use crate::corners::Corners;
 use cp_text::LineFault;
 use crease_model::Kind;
 use plane_geometry::Point;
 
 /// One command of a script.
-#[derive(Clone, Copy, Debug, PartialEq, Eq)]
+#[derive(Debug, Drop)]
 pub enum Command {
     /// A new line from one point to another.
     Add { kind: Kind, from: Point, to: Point },
+    /// The piece or auxiliary line with these ends goes.
+    Delete { from: Point, to: Point },
+    /// The piece with these ends becomes a mountain or a valley.
+    Set { kind: Kind, from: Point, to: Point },
+    /// Pieces that go on from one another become one.
+    Merge,
+    /// All pieces and auxiliary lines go.
+    Clear,
+    /// A new sheet with nothing on it.
+    Sheet { corners: Corners },
+    /// A new pattern of these lines. The stop says how the block ended.
+    Load { lines: LoadLines, stop: LoadStop },
     Undo,
     Redo,
     List,
+    /// The local checks of the current version.
+    Check,
     /// A line that is no command.
     Bad { fault: LineFault },
 }

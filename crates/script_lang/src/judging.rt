@@ -1,15 +1,25 @@
 //! How a line is judged.
 
-ghost use Rattle.std.specs.Prelude.{◌≡◌};
+ghost use Rattle.std.specs.Prelude.{◌≡◌, [], length, min, IfOk, IfSome, IsTrue};
 ghost use Rattle.cp_text.specs.Words.{words_of};
-ghost use Rattle.cp_text.specs.LineReading.{line_read};
-ghost use Rattle.script_lang.specs.Judged.{judged, judged_words, word_command, line_command, alone};
+ghost use Rattle.cp_text.specs.LineReading.{ends_read, line_read};
+ghost use Rattle.script_lang.specs.Judged.{judged, judged_words, word_command, line_command, alone, delete_between, set_between, set_kind, set_words, is_sheet_count, points_read, sheet_of, sheet_words};
+ghost use Rattle.script_lang.specs.Script.{meets_condition};
 
+use crate::block::{LoadLines, LoadStop};
 use crate::command::Command;
-use cp_text::{CpLine, LineFault, is_digits, next_word, read_line};
+use crate::corners::Corners;
+use cp_text::{
+    CpLine, Ends, LineFault, is_digits, next_word, read_ends, read_kind, read_line, read_point,
+};
+use crease_model::Kind;
+use std::alloc::{AllocError, Global};
 
 /// The longest line, in bytes without its end.
 const LONGEST: usize = 1000;
+
+/// The most words of a command.
+const MOST_WORDS: usize = 32;
 
 fn command_of(line: Result<CpLine, LineFault>) -> Command
     ensures { result ≡ line_command line }
@@ -24,46 +34,172 @@ fn command_of(line: Result<CpLine, LineFault>) -> Command
     }
 }
 
-fn judge_alone(command: Command, words: &[u8]) -> Command
-    ensures { result ≡ alone command (words_of words.now) }
+fn bad(fault: LineFault) -> Command
+    ensures { result ≡ Command.Bad fault }
 {
-    match next_word(words) {
-        Some(_) => Command::Bad {
-            fault: LineFault::WrongCount,
-        },
+    Command::Bad { fault }
+}
+
+fn judge_alone(command: Command, rest: &[u8]) -> Command
+    ensures { result ≡ alone command (words_of rest.now) }
+{
+    match next_word(rest) {
+        Some(_) => bad(LineFault::WrongCount),
         None => command,
     }
 }
 
-fn judge_word(word: &[u8], words: &[u8]) -> Command
-    ensures { result ≡ word_command word.now (words_of words.now) }
+fn judge_delete(words: &[u8]) -> Command
+    ensures { result ≡ delete_between (ends_read 1 (words_of words.now)) }
 {
-    if word == b"undo".as_slice() {
-        judge_alone(Command::Undo, words)
-    } else if word == b"redo".as_slice() {
-        judge_alone(Command::Redo, words)
-    } else if word == b"list".as_slice() {
-        judge_alone(Command::List, words)
-    } else {
-        Command::Bad {
-            fault: LineFault::UnknownWord,
+    match read_ends(1, words) {
+        Ok(Ends { from, to }) => Command::Delete { from, to },
+        Err(fault) => bad(fault),
+    }
+}
+
+// The number of words, or one more than a command has where there are more.
+fn count_words(words: &[u8]) -> usize
+    ensures { result ≡ min (length (words_of words.now)) 33 }
+{
+    let mut rest = words;
+    let mut count = 0;
+    while let Some((_, after)) = next_word(rest) {
+        if count == MOST_WORDS {
+            return count + 1;
         }
+        count += 1;
+        rest = after;
+    }
+    count
+}
+
+fn set_ends(kind: Kind, words: &[u8]) -> Command
+    ensures { result ≡ set_between kind (ends_read 2 (words_of words.now)) }
+{
+    match read_ends(2, words) {
+        Ok(Ends { from, to }) => Command::Set { kind, from, to },
+        Err(fault) => bad(fault),
+    }
+}
+
+fn judge_kind(kind: Option<Kind>, words: &[u8]) -> Command
+    ensures { result ≡ set_kind kind (ends_read 2 (words_of words.now)) }
+{
+    match kind {
+        Some(Kind::Mountain) => set_ends(Kind::Mountain, words),
+        Some(Kind::Valley) => set_ends(Kind::Valley, words),
+        _ => bad(LineFault::BadKind),
+    }
+}
+
+fn judge_set(words: &[u8]) -> Command
+    ensures { result ≡ set_words (words_of words.now) }
+{
+    match next_word(words) {
+        Some((kind, words)) => {
+            if count_words(words) == 4 {
+                judge_kind(read_kind(kind), words)
+            } else {
+                bad(LineFault::WrongCount)
+            }
+        }
+        None => bad(LineFault::WrongCount),
+    }
+}
+
+fn read_corners(alloc: Global, words: &[u8]) -> Result<Command, AllocError>
+    requires { IsTrue (is_sheet_count (length (words_of words.now))) }
+    ensures { IfOk result (λ command. command ≡ sheet_of (points_read 1 (words_of words.now))) }
+{
+    let mut points = Vec::new(alloc);
+    let mut place = 1;
+    let mut rest = words;
+    while let Some((x, after)) = next_word(rest) {
+        let Some((y, after)) = next_word(after) else {
+            return Ok(bad(LineFault::WrongCount));
+        };
+        match read_point(place, x, y) {
+            Ok(point) => points.push(point)?,
+            Err(fault) => return Ok(bad(fault)),
+        }
+        place += 2;
+        rest = after;
+    }
+    Ok(Command::Sheet {
+        corners: Corners::of(points),
+    })
+}
+
+fn is_sheet_count(count: usize) -> bool
+    ensures { result ≡ is_sheet_count count }
+{
+    6 <= count && count <= MOST_WORDS && count % 2 == 0
+}
+
+fn judge_sheet(alloc: Global, words: &[u8]) -> Result<Command, AllocError>
+    ensures { IfOk result (λ command. command ≡ sheet_words (words_of words.now)) }
+{
+    if is_sheet_count(count_words(words)) {
+        read_corners(alloc, words)
+    } else {
+        Ok(bad(LineFault::WrongCount))
+    }
+}
+
+// A block without lines and without its end.
+fn empty_load(alloc: Global) -> Command
+    ensures { result ≡ Command.Load [] LoadStop.Unended }
+{
+    Command::Load {
+        lines: LoadLines::of(Vec::new(alloc)),
+        stop: LoadStop::Unended,
+    }
+}
+
+fn judge_word(alloc: Global, word: &[u8], words: &[u8]) -> Result<Command, AllocError>
+    ensures { IfOk result (λ command. command ≡ word_command word.now (words_of words.now)) }
+{
+    if word == b"delete".as_slice() {
+        Ok(judge_delete(words))
+    } else if word == b"set".as_slice() {
+        Ok(judge_set(words))
+    } else if word == b"merge".as_slice() {
+        Ok(judge_alone(Command::Merge, words))
+    } else if word == b"clear".as_slice() {
+        Ok(judge_alone(Command::Clear, words))
+    } else if word == b"sheet".as_slice() {
+        judge_sheet(alloc, words)
+    } else if word == b"load".as_slice() {
+        Ok(judge_alone(empty_load(alloc), words))
+    } else if word == b"undo".as_slice() {
+        Ok(judge_alone(Command::Undo, words))
+    } else if word == b"redo".as_slice() {
+        Ok(judge_alone(Command::Redo, words))
+    } else if word == b"list".as_slice() {
+        Ok(judge_alone(Command::List, words))
+    } else if word == b"check".as_slice() {
+        Ok(judge_alone(Command::Check, words))
+    } else {
+        Ok(bad(LineFault::UnknownWord))
     }
 }
 
 /// The command of a line without its end; a line that is no command is `Bad` with its first fault. None exactly where the
-/// line has no word.
-pub fn read_command(line: &[u8]) -> Option<Command>
-    ensures { result ≡ judged line.now }
+/// line has no word. A line `load` by itself is a block without lines and without its end.
+pub fn read_command(alloc: Global, line: &[u8]) -> Result<Option<Command>, AllocError>
+    ensures exact { IfOk result (λ command. command ≡ judged line.now) }
+    ensures condition { IfOk result (λ command. IfSome command (λ c. IsTrue (meets_condition c))) }
 {
-    let (word, words) = next_word(line)?;
+    let Some((word, words)) = next_word(line) else {
+        return Ok(None);
+    };
     if is_digits(word) {
-        return Some(command_of(read_line(line)));
+        return Ok(Some(command_of(read_line(line))));
     }
     if line.len() > LONGEST {
-        return Some(Command::Bad {
-            fault: LineFault::LongLine,
-        });
+        return Ok(Some(bad(LineFault::LongLine)));
     }
-    Some(judge_word(word, words))
+    let command = judge_word(alloc, word, words)?;
+    Ok(Some(command))
 }

@@ -1,12 +1,24 @@
 //! The editing script: commands, replies and refusals, and their texts.
 #![tactic(auto)]
 
+mod block;
 mod command;
+mod corners;
 mod judging;
+mod laws;
 mod reply;
 mod script;
+#[cfg(test)]
+mod tests;
 
+pub use block::{LoadLines, LoadStop};
 pub use command::Command;
+pub use corners::Corners;
 pub use judging::read_command;
-pub use reply::{Refusal, Reply, write_head};
-pub use script::{Commands, read_script};
+pub use laws::{
+    blocks_are_one_command, first_bad_line_stops, good_lines_are_loaded,
+    open_blocks_are_one_command, plain_lines_are_judged, printed_patterns_are_loaded,
+    printed_patterns_come_back, single_lines_are_judged,
+};
+pub use reply::{LoadCause, Refusal, Reply, refusal_of_line, refusal_of_store, write_head};
+pub use script::{Commands, is_load, read_script};

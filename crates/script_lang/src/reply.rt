@@ -1,10 +1,21 @@
 //! Replies and refusals, and the first line of their texts.
 
-ghost use Rattle.std.specs.Prelude.{◌≡◌, ◌++◌, List, ℕ, length, take, codes, decimal, IfOk, OnOk, OnErr};
-ghost use Rattle.script_lang.specs.Replies.{head_text, refusal_text, refusal_word, refusal_number, number_text};
+ghost use Rattle.std.specs.Prelude.{◌≡◌, ◌++◌, List, ℕ, length, take, codes, decimal, IfOk, IfSome, OnOk, OnErr};
+ghost use Rattle.script_lang.specs.Replies.{line_refusal, refusal_if, store_refusal, cause_refusal, head_text, refusal_text, plain_text, refusal_word, refusal_number, refusal_cause, number_text, cause_text};
 
+use cp_text::LineFault;
+use crease_store::StoreFault;
 use itoa::Buffer;
 use std::alloc::AllocError;
+
+/// Why a line of a block is refused.
+#[derive(Clone, Copy, Debug, PartialEq, Eq)]
+pub enum LoadCause {
+    /// It is no crease line.
+    Line { fault: LineFault },
+    /// It is not added.
+    Add { fault: StoreFault },
+}
 
 /// Why a command changed nothing. Places count the words after the first, from 1.
 #[derive(Clone, Copy, Debug, PartialEq, Eq)]
@@ -23,24 +34,34 @@ pub enum Refusal {
     NotExact { place: u32 },
     /// The number at this place is beyond the limits.
     OutOfRange { place: u32 },
-    /// The editor does not add such a line yet.
-    NotYet,
     /// Both ends are equal.
     ZeroLength,
     /// The ends have none of the 16 directions.
     BadDirection,
+    /// The edge is not within one side of the sheet.
+    EdgeOffBorder,
     /// An end is outside the sheet.
     OutsideSheet,
     /// The crease is within one side of the sheet.
     OnBorder,
+    /// The common point with this piece, from 1, is not of two exact numbers.
+    Crossing { piece: u32 },
     /// The pattern would have this many pieces and auxiliary lines, more than 2000.
     TooManyPieces { pieces: u32 },
+    /// No piece has these ends.
+    NoSuchPiece,
+    /// The corners are no sheet: this one, from 1, is the first bad one, or 0 where only the sum of the turns is wrong.
+    BadSheet { corner: u32 },
     /// Version 1000 is the last one.
     Full,
     /// Version 0 is current.
     NothingToUndo,
     /// No undo is left to take back.
     NothingToRedo,
+    /// This line of a block, from 1, is refused.
+    LoadLine { number: u32, cause: LoadCause },
+    /// A block has no end.
+    LoadUnended,
 }
 
 /// The answer to one command. Numbers of pieces count crease pieces and auxiliary lines.
@@ -50,7 +71,52 @@ pub enum Reply {
     Version { version: u32, pieces: u32 },
     /// The version whose pattern is listed.
     Listed { version: u32, pieces: u32 },
+    /// The version whose vertices were checked, and the number of faults.
+    Checked { version: u32, faults: u32 },
     Refused { refusal: Refusal },
+}
+
+/// The refusal of a line.
+pub fn refusal_of_line(fault: LineFault) -> Refusal
+    ensures { result ≡ line_refusal fault }
+{
+    match fault {
+        LineFault::LongLine => Refusal::LongLine,
+        LineFault::UnknownWord => Refusal::UnknownWord,
+        LineFault::BadKind => Refusal::BadKind,
+        LineFault::WrongCount => Refusal::WrongCount,
+        LineFault::BadNumber { place } => Refusal::BadNumber { place },
+        LineFault::NotExact { place } => Refusal::NotExact { place },
+        LineFault::OutOfRange { place } => Refusal::OutOfRange { place },
+    }
+}
+
+/// The refusal of a change; None for want of memory, which has none.
+pub fn refusal_of_store(fault: StoreFault) -> Option<Refusal>
+    ensures exact { result ≡ refusal_if fault }
+    ensures some { IfSome result (λ refusal. refusal ≡ store_refusal fault) }
+{
+    match fault {
+        StoreFault::ZeroLength => Some(Refusal::ZeroLength),
+        StoreFault::BadDirection => Some(Refusal::BadDirection),
+        StoreFault::EdgeOffBorder => Some(Refusal::EdgeOffBorder),
+        StoreFault::OutsideSheet => Some(Refusal::OutsideSheet),
+        StoreFault::OnBorder => Some(Refusal::OnBorder),
+        StoreFault::Crossing { piece } => Some(Refusal::Crossing { piece }),
+        StoreFault::TooManyPieces { pieces } => Some(Refusal::TooManyPieces { pieces }),
+        StoreFault::NoSuchPiece => Some(Refusal::NoSuchPiece),
+        StoreFault::Memory => None,
+    }
+}
+
+// The refusal that the line itself would have.
+fn refusal_of_cause(cause: LoadCause) -> Refusal
+    ensures { result ≡ cause_refusal cause }
+{
+    match cause {
+        LoadCause::Line { fault } => refusal_of_line(fault),
+        LoadCause::Add { fault } => refusal_of_store(fault).unwrap_or(Refusal::Full),
+    }
 }
 
 fn append_number(out: &mut Vec<u8>, n: u32) -> Result<(), AllocError>
@@ -90,15 +156,20 @@ fn refusal_word_of(refusal: Refusal) -> &'static [u8]
         Refusal::BadNumber { .. } => b"badnumber",
         Refusal::NotExact { .. } => b"notexact",
         Refusal::OutOfRange { .. } => b"outofrange",
-        Refusal::NotYet => b"notyet",
         Refusal::ZeroLength => b"zerolength",
         Refusal::BadDirection => b"baddirection",
+        Refusal::EdgeOffBorder => b"edgeoffborder",
         Refusal::OutsideSheet => b"outsidesheet",
         Refusal::OnBorder => b"onborder",
+        Refusal::Crossing { .. } => b"crossing",
         Refusal::TooManyPieces { .. } => b"toomanypieces",
+        Refusal::NoSuchPiece => b"nosuchpiece",
+        Refusal::BadSheet { .. } => b"badsheet",
         Refusal::Full => b"full",
         Refusal::NothingToUndo => b"nothingtoundo",
         Refusal::NothingToRedo => b"nothingtoredo",
+        Refusal::LoadLine { .. } => b"load",
+        Refusal::LoadUnended => b"load unended",
     }
 }
 
@@ -109,7 +180,19 @@ fn refusal_number_of(refusal: Refusal) -> Option<u32>
         Refusal::BadNumber { place } => Some(place),
         Refusal::NotExact { place } => Some(place),
         Refusal::OutOfRange { place } => Some(place),
+        Refusal::Crossing { piece } => Some(piece),
         Refusal::TooManyPieces { pieces } => Some(pieces),
+        Refusal::BadSheet { corner } => Some(corner),
+        Refusal::LoadLine { number, .. } => Some(number),
+        _ => None,
+    }
+}
+
+fn refusal_cause_of(refusal: Refusal) -> Option<LoadCause>
+    ensures { result ≡ refusal_cause refusal }
+{
+    match refusal {
+        Refusal::LoadLine { cause, .. } => Some(cause),
         _ => None,
     }
 }
@@ -127,13 +210,35 @@ fn append_place(out: &mut Vec<u8>, number: Option<u32>) -> Result<(), AllocError
     }
 }
 
+// The word and the number of a refusal.
+fn append_plain(out: &mut Vec<u8>, refusal: Refusal) -> Result<(), AllocError>
+    ensures ok { OnOk result (out.new.items ≡ out.old.items ++ plain_text refusal) }
+    ensures err { OnErr result (take (length out.old.items) out.new.items ≡ out.old.items) }
+{
+    out.extend_from_slice(refusal_word_of(refusal))?;
+    append_place(out, refusal_number_of(refusal))
+}
+
+fn append_cause(out: &mut Vec<u8>, cause: Option<LoadCause>) -> Result<(), AllocError>
+    ensures ok { OnOk result (out.new.items ≡ out.old.items ++ cause_text cause) }
+    ensures err { OnErr result (take (length out.old.items) out.new.items ≡ out.old.items) }
+{
+    match cause {
+        None => Ok(()),
+        Some(cause) => {
+            out.extend_from_slice(b" ")?;
+            append_plain(out, refusal_of_cause(cause))
+        }
+    }
+}
+
 fn append_refusal(out: &mut Vec<u8>, refusal: Refusal) -> Result<(), AllocError>
     ensures ok { OnOk result (out.new.items ≡ out.old.items ++ codes "refused " ++ refusal_text refusal ++ codes "\n") }
     ensures err { OnErr result (take (length out.old.items) out.new.items ≡ out.old.items) }
 {
     out.extend_from_slice(b"refused ")?;
-    out.extend_from_slice(refusal_word_of(refusal))?;
-    append_place(out, refusal_number_of(refusal))?;
+    append_plain(out, refusal)?;
+    append_cause(out, refusal_cause_of(refusal))?;
     out.extend_from_slice(b"\n")
 }
 
@@ -150,6 +255,7 @@ fn append_head(out: &mut Vec<u8>, reply: &Reply) -> Result<(), AllocError>
             pieces,
         ),
         Reply::Listed { version, pieces } => append_counts(out, b"list ", version, b" ", pieces),
+        Reply::Checked { version, faults } => append_counts(out, b"check ", version, b" ", faults),
         Reply::Refused { refusal } => append_refusal(out, refusal),
     }
 }

@@ -1,11 +1,11 @@
 -- One step of undo keeps the journal's invariant.
-use Rattle.std.proofs.Common.{◌≡◌, ℕ, ◌+◌, ◌<◌, ◌≤◌, List, [], ◌∷◌, ◌++◌, length, get_or, refl, ap, arith, ◌∙◌, sym}
-use Rattle.std.specs.Prelude.{reverse, slice_get, Some, option_map, unwrap_or}
+use Rattle.std.proofs.Common.{◌≡◌, ℕ, ◌<◌, List, [], ◌∷◌, ◌++◌, length, get_or, refl, arith}
+use Rattle.std.specs.Prelude.{reverse}
 use Rattle.std.proofs.lemmas.List.{reverse-append}
 use Rattle.std.proofs.lemmas.Option.{slice_get_read}
 use Rattle.undo_journal.specs.declared.Version.{Version}
-use Rattle.undo_journal.specs.Versions.{JournalView, undone, parent_at}
-use Rattle.undo_journal.specs.Invariant.{IsJournal, IsRedoable}
+use Rattle.undo_journal.specs.Versions.{JournalView, undone}
+use Rattle.undo_journal.specs.Invariant.{IsJournal}
 
 -- the fields after an undo are those of the journal that the definition gives
 pub undone-fields : (versions : List Version) (current : ℕ) (redo redo' : List ℕ) (v : Version) → current < length versions → v ≡ get_or versions current v → redo' ≡ redo ++ current ∷ []

@@ -1,7 +1,5 @@
 -- What every journal keeps.
 use Rattle.std.specs.Prelude.{ℕ, ◌+◌, ◌<◌, ◌≤◌, List, [], ◌∷◌, length, ⊤}
-use Rattle.std.specs.List.{AllByRecursion}
-use Rattle.undo_journal.specs.declared.Version.{Version}
 use Rattle.undo_journal.specs.Versions.{JournalView, parent_at}
 
 -- each number on the redo list names a version, and leaves room for as many undos as stand before it

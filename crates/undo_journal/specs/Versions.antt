@@ -1,6 +1,6 @@
 -- The version journal: every version of the pattern with the version that it was made from, the current number, and the
 -- numbers that redo goes back to, the last one first.
-use Rattle.std.specs.Prelude.{ℕ, zero, suc, ◌-◌, List, [], ◌∷◌, ◌++◌, length, Option, None, Some, slice_get, option_map, unwrap_or}
+use Rattle.std.specs.Prelude.{ℕ, ◌-◌, List, [], ◌∷◌, ◌++◌, length, Option, None, Some, slice_get, option_map, unwrap_or}
 use Rattle.crease_model.specs.View.{PatternView}
 use Rattle.undo_journal.specs.declared.Version.{Version}
 

@@ -1,6 +1,4 @@
-use Rattle.std.proofs.Common.{arith, inl, inr, ⊎_elim, sym, ◌∙◌, ◌≡◌, ◌≤◌, ◌<◌, length}
-use Rattle.oriedita_io.specs.declared.reading.InputEnd.TheVariants.{Failed, More}
-use Rattle.oriedita_cli.specs.Clauses.{script_limit}
+use Rattle.std.proofs.Common.{arith, inl, ⊎_elim, ◌≡◌, ◌≤◌}
 use Rattle.oriedita_cli.proofs.Unanswered.{none_read}
 use Rattle.oriedita_cli.proofs.running.run_input.Goals as goal
 

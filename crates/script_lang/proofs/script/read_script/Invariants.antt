@@ -1,13 +1,16 @@
-use Rattle.std.proofs.Common.{◌≡◌, ◌≤◌, ◌++◌, drop}
-use Rattle.std.specs.Prelude.{slice_range}
-use Rattle.std.specs.List.{filter_map}
-use Rattle.cp_text.specs.Words.{lines_from}
-use Rattle.script_lang.specs.Script.{command_at, commands_of}
+use Rattle.std.proofs.Common.{◌≡◌, ◌<◌, ◌++◌, false, IsTrue, length}
+use Rattle.std.specs.List.{list_all}
+use Rattle.cp_text.specs.Words.{bare_lines}
+use Rattle.script_lang.specs.Script.{meets_condition, commands_from, commands_of}
 use Rattle.script_lang.proofs.script.read_script.Given as goal
 
--- the commands so far, and those of the line that has begun with the bytes from start on and of all after it
-abbrev pub invariant-loop-i : goal.invariant-loop-i
-invariant-loop-i l = record {
-  begun : l.start ≤ l.i;
-  commands : l.list.items ++ filter_map command_at (lines_from (slice_range l.bytes l.start l.i) (drop l.i l.bytes)) ≡ commands_of l.bytes;
+-- the commands so far, and those of the lines that are left
+abbrev pub invariant-loop-line : goal.invariant-loop-line
+invariant-loop-line l = record {
+  commands : l.list.items ++ commands_from false (bare_lines l.text) ≡ commands_of l.bytes;
+  condition : IsTrue (list_all meets_condition l.list.items);
+  lines : length (bare_lines l.text) < 4294967295;
 }
+
+abbrev pub decreases-loop-line : goal.decreases-loop-line
+decreases-loop-line l = length (bare_lines l.text)

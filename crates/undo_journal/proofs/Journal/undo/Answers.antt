@@ -1,6 +1,5 @@
 use Rattle.std.proofs.Common.{rules, ◌≡◌, [], ◌∷◌, ◌++◌, ap, ◌∙◌, arith, sym, subst}
-use Rattle.std.specs.Prelude.{reverse}
-use Rattle.undo_journal.specs.Versions.{JournalView, undone}
+use Rattle.undo_journal.specs.Versions.{undone}
 use Rattle.undo_journal.specs.Invariant.{IsJournal}
 use Rattle.undo_journal.proofs.Undoing.{undone-fields, IsJournal-undone}
 use Rattle.undo_journal.proofs.Journal.undo.Goals as goal

@@ -1,10 +1,7 @@
-use Rattle.std.proofs.Common.{rules, ◌≡◌, ◌++◌, ◌∷◌, [], sym, ap, subst, ◌∙◌}
+use Rattle.std.proofs.Common.{rules, ◌≡◌, ◌++◌, ◌∷◌, [], ap, ◌∙◌}
 use Rattle.job_register.specs.declared.session.Event.TheVariants.{Made}
-use Rattle.job_register.specs.View.{events_of}
 use Rattle.job_register.specs.Machine.{answer}
-use Rattle.job_register.specs.Legal.{IsLegal, state_after}
-use Rattle.job_register.specs.Text.{text_of, reply_text}
-use Rattle.job_register.specs.Kept.{Keeps}
+use Rattle.job_register.specs.Legal.{state_after}
 use Rattle.job_register.proofs.Records.{step}
 use Rattle.job_register.proofs.session.Session.step.Goals as goal
 

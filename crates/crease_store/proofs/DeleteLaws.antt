@@ -1,0 +1,165 @@
+-- What taking away and another kind mean, proved.
+use Rattle.std.proofs.Common.{◌≡◌, Bool, true, false, cond, not, inl, inr, List, [], ◌∷◌, map, refl, sym, ap, ap₂, ◌∙◌}
+use Rattle.std.specs.Prelude.{Ok, Err, MatchResult}
+use Rattle.std.specs.Ordering.{is_lt}
+use Rattle.std.proofs.lemmas.Bool.{and_parts, and_from, true≢false, false_from_ne_true, not-true, not_from_false}
+use Rattle.surd_number.specs.declared.Sgn.TheVariants.{Neg}
+use Rattle.surd_number.specs.SignLaws.{opposite_sign}
+use Rattle.plane_geometry.specs.declared.Point.{Point}
+use Rattle.plane_geometry.specs.declared.Segment.{Segment}
+use Rattle.plane_geometry.specs.Position.{position_of, compare_positions, is_same_position}
+use Rattle.plane_geometry.specs.Direction.{is_positive}
+use Rattle.plane_geometry.specs.Ends.{lesser_of, greater_of}
+use Rattle.plane_geometry.specs.SegmentView.{stretch_of, lesser_end, greater_end}
+use Rattle.plane_geometry.specs.SideLaws.{order_of, order_turned}
+use Rattle.plane_geometry.specs.StretchLaws.{before_is, ends_order}
+use Rattle.crease_model.specs.declared.Kind.{Kind}
+use Rattle.crease_model.specs.declared.Piece.{Piece}
+use Rattle.crease_model.specs.Rules.{IsPattern}
+use Rattle.crease_model.specs.View.{PatternView}
+use Rattle.crease_store.specs.declared.faults.StoreFault.TheVariants.{NoSuchPiece}
+use Rattle.crease_store.specs.Changed.{has_ends, is_piece_between, has_piece, has_line, without_piece, without_line, delete_of, in_kind, with_kind, set_of}
+use Rattle.crease_store.specs.ChangeLaws.{HasEnds, HasPiece, HasLine, IsPieceTaken, IsLineTaken, IsDeleted, DeleteTakesAway, IsKindSet, SetTurnsOne}
+use Rattle.line_split.specs.Members.{Member, member, contained, any_member, member_any, filter_member, member_filter}
+use Rattle.crease_store.proofs.Changes.{IsPattern-without_piece, IsPattern-without_line, same_segments, segment_stays}
+use Rattle.crease_store.proofs.Chains.{same_point, point_self}
+
+-- ---- the ends
+
+ends_parts : (p q : Point) (s : Segment) → has_ends p q s ≡ true → HasEnds p q s
+ends_parts p q s e =
+    go (is_lt (compare_positions (position_of p) (position_of q)))
+    (same_point (lesser_end s) (lesser_of p q) (and_parts (is_same_position (position_of (lesser_end s)) (position_of (lesser_of p q))) _ e).0)
+    (same_point (greater_end s) (greater_of p q) (and_parts (is_same_position (position_of (lesser_end s)) (position_of (lesser_of p q))) _ e).1)
+  where
+    go : (b : Bool) → lesser_end s ≡ cond b p q → greater_end s ≡ cond b q p → HasEnds p q s
+    go true f g = inl (f, g)
+    go false f g = inr (f, g)
+
+ends_from : (p q : Point) (s : Segment) → HasEnds p q s → has_ends p q s ≡ true
+ends_from p q s (inl w) =
+    let before : is_lt (compare_positions (position_of p) (position_of q)) ≡ true =
+    ap₂ (λ (a b : Point). is_lt (compare_positions (position_of a) (position_of b))) (sym w.0) (sym w.1) ∙ s.stretch.0 in
+    and_from (is_same_position (position_of (lesser_end s)) (position_of (lesser_of p q))) _
+    (point_self (lesser_end s) (lesser_of p q) (w.0 ∙ sym (ap (λ b. cond b p q) before)))
+    (point_self (greater_end s) (greater_of p q) (w.1 ∙ sym (ap (λ b. cond b q p) before)))
+ends_from p q s (inr w) =
+    let turned : order_of (position_of p) (position_of q) ≡ Neg =
+    ap₂ (λ (a b : Point). order_of (position_of a) (position_of b)) (sym w.1) (sym w.0)
+    ∙ order_turned (stretch_of s).from (stretch_of s).to ∙ ap opposite_sign (ends_order (stretch_of s) s.stretch) in
+    let after : is_lt (compare_positions (position_of p) (position_of q)) ≡ false = before_is (position_of p) (position_of q) ∙ ap is_positive turned in
+    and_from (is_same_position (position_of (lesser_end s)) (position_of (lesser_of p q))) _
+    (point_self (lesser_end s) (lesser_of p q) (w.0 ∙ sym (ap (λ b. cond b p q) after)))
+    (point_self (greater_end s) (greater_of p q) (w.1 ∙ sym (ap (λ b. cond b q p) after)))
+
+kept_from : (p q : Point) (s : Segment) → (HasEnds p q s → ⊥) → not (has_ends p q s) ≡ true
+kept_from p q s none = not_from_false (has_ends p q s) (false_from_ne_true (has_ends p q s) (λ e. none (ends_parts p q s e)))
+
+kept_parts : (p q : Point) (s : Segment) → not (has_ends p q s) ≡ true → HasEnds p q s → ⊥
+kept_parts p q s e w = true≢false (sym (ends_from p q s w) ∙ not-true (has_ends p q s) e)
+
+-- ---- what there is
+
+piece_there : (old : PatternView) (p q : Point) → has_piece old.pieces p q ≡ true → HasPiece old p q
+piece_there old p q e = let w = any_member (is_piece_between p q) old.pieces e in (w.0, contained old.pieces w.0 w.1, ends_parts p q (w.0).segment w.2)
+
+no_piece_there : (old : PatternView) (p q : Point) → has_piece old.pieces p q ≡ false → HasPiece old p q → ⊥
+no_piece_there old p q e w = true≢false (sym (member_any (is_piece_between p q) old.pieces w.0 (member old.pieces w.0 w.1) (ends_from p q (w.0).segment w.2)) ∙ e)
+
+line_there : (old : PatternView) (p q : Point) → has_line old.aux p q ≡ true → HasLine old p q
+line_there old p q e = let w = any_member (has_ends p q) old.aux e in (w.0, contained old.aux w.0 w.1, ends_parts p q w.0 w.2)
+
+no_line_there : (old : PatternView) (p q : Point) → has_line old.aux p q ≡ false → HasLine old p q → ⊥
+no_line_there old p q e w = true≢false (sym (member_any (has_ends p q) old.aux w.0 (member old.aux w.0 w.1) (ends_from p q w.0 w.2)) ∙ e)
+
+-- ---- taking away
+
+piece_taken : (old : PatternView) (p q : Point) → IsPattern old → has_piece old.pieces p q ≡ true → IsPieceTaken old p q (without_piece old p q)
+piece_taken old p q rules e =
+    let keep : Piece → Bool = λ piece. not (is_piece_between p q piece) in
+    record {
+      there = piece_there old p q e;
+      corners = refl;
+      aux = refl;
+      order = (IsPattern-without_piece old p q rules).order.0;
+      pieces = λ z. (
+        (λ c. let w = filter_member keep old.pieces z (member _ z c) in (contained old.pieces z w.0, kept_parts p q z.segment w.1)),
+        λ w. contained _ z (member_filter keep old.pieces z (member old.pieces z w.0) (kept_from p q z.segment w.1)),
+      );
+    }
+
+line_taken : (old : PatternView) (p q : Point) → IsPattern old → has_piece old.pieces p q ≡ false → has_line old.aux p q ≡ true → IsLineTaken old p q (without_line old p q)
+line_taken old p q rules none e =
+    let keep : Segment → Bool = λ s. not (has_ends p q s) in
+    record {
+      no_piece = no_piece_there old p q none;
+      there = line_there old p q e;
+      corners = refl;
+      pieces = refl;
+      order = (IsPattern-without_line old p q rules).order.1;
+      aux = λ s. (
+        (λ c. let w = filter_member keep old.aux s (member _ s c) in (contained old.aux s w.0, kept_parts p q s w.1)),
+        λ w. contained _ s (member_filter keep old.aux s (member old.aux s w.0) (kept_from p q s w.1)),
+      );
+    }
+
+pub delete_takes_away : DeleteTakesAway
+unfolding delete_of
+delete_takes_away old p q rules = go (has_piece old.pieces p q) (has_line old.aux p q) refl refl
+  where
+    go : (a b : Bool) → has_piece old.pieces p q ≡ a → has_line old.aux p q ≡ b → MatchResult (cond a (Ok (without_piece old p q)) (cond b (Ok (without_line old p q)) (Err NoSuchPiece))) (λ new. IsDeleted old p q new) (λ e. (e ≡ NoSuchPiece) × (¬ HasPiece old p q) × (¬ HasLine old p q))
+    go true b e f = inl (piece_taken old p q rules e)
+    go false true e f = inr (line_taken old p q rules e f)
+    go false false e f = (refl, no_piece_there old p q e, no_line_there old p q f)
+
+-- ---- another kind
+
+module _ (kind : Kind) (p q : Point) where
+  turned_is : (z : Piece) → is_piece_between p q z ≡ true → (in_kind kind p q z).kind ≡ kind
+  turned_is z e = ap (λ b. (cond b (record z { kind = kind }) z).kind) e
+
+  stays_is : (z : Piece) → is_piece_between p q z ≡ false → in_kind kind p q z ≡ z
+  stays_is z e = ap (λ b. cond b (record z { kind = kind }) z) e
+
+  not_there : (z : Piece) → (HasEnds p q z.segment → ⊥) → is_piece_between p q z ≡ false
+  not_there z none = false_from_ne_true (has_ends p q z.segment) (λ e. none (ends_parts p q z.segment e))
+
+  same_there : (z : Piece) → is_piece_between p q (in_kind kind p q z) ≡ is_piece_between p q z
+  same_there z = ap (has_ends p q) (segment_stays kind p q z)
+
+  set_here : (ps : List Piece) (z : Piece) → Member (map (in_kind kind p q) ps) z → is_piece_between p q z ≡ true → z.kind ≡ kind
+  set_here [] z m e = absurd m
+  set_here (x ∷ xs) z (inl at) e = ap (λ (t : Piece). t.kind) (sym at) ∙ turned_is x (sym (same_there x) ∙ ap (is_piece_between p q) at ∙ e)
+  set_here (x ∷ xs) z (inr m) e = set_here xs z m e
+
+  others_to : (ps : List Piece) (z : Piece) → Member (map (in_kind kind p q) ps) z → is_piece_between p q z ≡ false → Member ps z
+  others_to [] z m e = absurd m
+  others_to (x ∷ xs) z (inl at) e = inl (sym (stays_is x (sym (same_there x) ∙ ap (is_piece_between p q) at ∙ e)) ∙ at)
+  others_to (x ∷ xs) z (inr m) e = inr (others_to xs z m e)
+
+  others_from : (ps : List Piece) (z : Piece) → Member ps z → is_piece_between p q z ≡ false → Member (map (in_kind kind p q) ps) z
+  others_from [] z m e = absurd m
+  others_from (x ∷ xs) z (inl at) e = inl (stays_is x (ap (is_piece_between p q) at ∙ e) ∙ at)
+  others_from (x ∷ xs) z (inr m) e = inr (others_from xs z m e)
+
+  kind_set : (old : PatternView) → has_piece old.pieces p q ≡ true → IsKindSet old kind p q (with_kind old kind p q)
+  kind_set old e =
+      record {
+        there = piece_there old p q e;
+        corners = refl;
+        aux = refl;
+        segments = same_segments (in_kind kind p q) (segment_stays kind p q) old.pieces;
+        here = λ z c w. set_here old.pieces z (member _ z c) (ends_from p q z.segment w);
+        others = λ z none. (
+          (λ c. contained old.pieces z (others_to old.pieces z (member _ z c) (not_there z none))),
+          λ c. contained _ z (others_from old.pieces z (member old.pieces z c) (not_there z none)),
+        );
+      }
+
+pub set_turns_one : SetTurnsOne
+unfolding set_of
+set_turns_one old kind p q = go (has_piece old.pieces p q) refl
+  where
+    go : (b : Bool) → has_piece old.pieces p q ≡ b → MatchResult (cond b (Ok (with_kind old kind p q)) (Err NoSuchPiece)) (λ new. IsKindSet old kind p q new) (λ e. (e ≡ NoSuchPiece) × (¬ HasPiece old p q))
+    go true e = kind_set kind p q old e
+    go false e = (refl, no_piece_there old p q e)

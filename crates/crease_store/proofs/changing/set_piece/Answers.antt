@@ -1,0 +1,11 @@
+use Rattle.std.proofs.Common.{◌≡◌, rules, subst, sym}
+use Rattle.crease_model.specs.View.{PatternView}
+use Rattle.crease_model.specs.Rules.{IsPattern}
+use Rattle.crease_store.specs.Changed.{with_kind}
+use Rattle.crease_store.proofs.Changes.{IsPattern-with_kind}
+use Rattle.crease_store.proofs.changing.set_piece.Goals as goal
+
+pub of-requires : goal.of-requires
+of-requires c =
+    let new : (let p : PatternView = record { corners = c.in_ok-sheet.sheet; pieces = c.in_ok-pieces.pieces.items; aux = c.in_ok-aux.aux.items } in p) ≡ with_kind c.args.pattern.now c.args.kind c.args.from.now c.args.to.now = search rules in
+    subst IsPattern (sym new) (IsPattern-with_kind c.args.pattern.now c.args.kind c.args.from.now c.args.to.now c.pieces.ensures.rules c.requires)

@@ -1,0 +1,117 @@
+-- Merging: pieces of one direction and kind that are joined at vertices where nothing else ends become one piece.
+use Rattle.std.specs.Prelude.{◌≡◌, ◌↔◌, ⊤, Contains, IsTrue, IsFalse, ℕ, zero, suc, Bool, true, false, ◌&&◌, nat_eq, List, [], ◌∷◌, length, filter, Option, None, Some, unwrap_or, if◌then◌else◌}
+use Rattle.plane_geometry.specs.declared.Point.{Point}
+use Rattle.plane_geometry.specs.Position.{position_of, is_same_position}
+use Rattle.plane_geometry.specs.SegmentOf.{segment_of}
+use Rattle.plane_geometry.specs.SegmentView.{lesser_end, greater_end, direction_number}
+use Rattle.crease_model.specs.declared.Kind.{Kind}
+use Rattle.crease_model.specs.declared.Kind.TheVariants.{Edge, Mountain, Valley, Aux}
+use Rattle.crease_model.specs.declared.Piece.{Piece}
+use Rattle.crease_model.specs.Rules.{is_ascending, segments_of}
+use Rattle.crease_model.specs.View.{PatternView}
+use Rattle.crease_store.specs.Placed.{segment_at, placed}
+
+abbrev pub is_same_kind : Kind → Kind → Bool
+is_same_kind Edge Edge = true
+is_same_kind Mountain Mountain = true
+is_same_kind Valley Valley = true
+is_same_kind Aux Aux = true
+is_same_kind _ _ = false
+
+abbrev pub begins_at : Point → Piece → Bool
+begins_at v p = is_same_position (position_of (lesser_end p.segment)) (position_of v)
+
+abbrev pub arrives_at : Point → Piece → Bool
+arrives_at v p = is_same_position (position_of (greater_end p.segment)) (position_of v)
+
+-- the piece of a list of one
+abbrev pub single : List Piece → Option Piece
+single [] = None
+single (p ∷ []) = Some p
+single (p ∷ q ∷ ps) = None
+
+-- the only piece that begins at v, and the only one that arrives there
+abbrev pub only_from : List Piece → Point → Option Piece
+only_from pieces v = single (filter (begins_at v) pieces)
+
+abbrev pub only_to : List Piece → Point → Option Piece
+only_to pieces v = single (filter (arrives_at v) pieces)
+
+-- of one direction and kind
+abbrev pub is_alike : Piece → Piece → Bool
+is_alike p q = is_same_kind p.kind q.kind && nat_eq (direction_number p.segment) (direction_number q.segment)
+
+abbrev pub are_alike : Option Piece → Option Piece → Bool
+are_alike None _ = false
+are_alike (Some p) None = false
+are_alike (Some p) (Some q) = is_alike p q
+
+-- exactly two pieces end at v, in opposite directions and of one kind: since each piece runs from its lesser end to its
+-- greater, one arrives at v, and one goes on from there in its direction
+unfoldable pub is_loose : List Piece → Point → Bool
+is_loose pieces v = are_alike (only_to pieces v) (only_from pieces v)
+
+-- the piece that goes on from p, if p ends at a loose vertex
+unfoldable pub next_piece : List Piece → Piece → Option Piece
+next_piece pieces p = if is_loose pieces (greater_end p.segment) then only_from pieces (greater_end p.segment) else None
+
+-- the piece that is reached from p in at most n steps
+abbrev pub last_piece : ℕ → List Piece → Piece → Piece
+last_piece zero pieces p = p
+last_piece (suc n) pieces p = last_piece n pieces (unwrap_or (next_piece pieces p) p)
+
+abbrev pub joined_to : Piece → Piece → Piece
+joined_to p q = record p { segment = unwrap_or (segment_of (lesser_end p.segment) (greater_end q.segment)) p.segment }
+
+-- the chain that begins with p, as one piece
+unfoldable pub merged_from : List Piece → Piece → Piece
+merged_from pieces p = joined_to p (last_piece (length pieces) pieces p)
+
+-- the chains that begin with one of ps, in order
+abbrev pub merged_among : List Piece → List Piece → List Piece
+merged_among pieces [] = []
+merged_among pieces (p ∷ ps) =
+    if is_loose pieces (lesser_end p.segment) then merged_among pieces ps
+    else placed segment_at (merged_among pieces ps) (merged_from pieces p)
+
+-- all loose vertices are taken away at once; the auxiliary lines and the sheet stay
+unfoldable pub merge_of : PatternView → PatternView
+merge_of pattern = record pattern { pieces = merged_among pattern.pieces pattern.pieces }
+
+-- ---- the same in words
+
+-- q goes on from p at a loose vertex
+pub record IsJoined (pieces : List Piece) (p q : Piece) : Type 0 where
+  pub first : Contains pieces p
+  pub second : Contains pieces q
+  pub vertex : greater_end p.segment ≡ lesser_end q.segment
+  pub loose : IsTrue (is_loose pieces (greater_end p.segment))
+  pub kind : p.kind ≡ q.kind
+  pub direction : direction_number p.segment ≡ direction_number q.segment
+
+-- p and then ps, each joined to the next
+abbrev pub IsChain : List Piece → Piece → List Piece → Type 0
+IsChain pieces p [] = ⊤
+IsChain pieces p (q ∷ qs) = IsJoined pieces p q × IsChain pieces q qs
+
+abbrev pub last_of : Piece → List Piece → Piece
+last_of p [] = p
+last_of p (q ∷ qs) = last_of q qs
+
+-- q is a chain as one piece, and neither of its ends is loose
+pub record IsPieceOfMerge (old : List Piece) (q : Piece) : Type 0 where
+  pub first : Piece
+  pub rest : List Piece
+  pub there : Contains old first
+  pub chain : IsChain old first rest
+  pub from : lesser_end q.segment ≡ lesser_end first.segment
+  pub to : greater_end q.segment ≡ greater_end (last_of first rest).segment
+  pub kind : q.kind ≡ first.kind
+  pub begins : IsFalse (is_loose old (lesser_end first.segment))
+  pub ends : IsFalse (is_loose old (greater_end (last_of first rest).segment))
+
+pub record IsMerged (old new : PatternView) : Type 0 where
+  pub corners : new.corners ≡ old.corners
+  pub aux : new.aux ≡ old.aux
+  pub order : IsTrue (is_ascending (segments_of new.pieces))
+  pub pieces : (q : Piece) → Contains new.pieces q ↔ IsPieceOfMerge old.pieces q

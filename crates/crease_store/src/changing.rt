@@ -1,0 +1,218 @@
+//! Taking a piece away, giving it another kind, and clearing.
+
+ghost use Rattle.std.specs.Prelude.{◌≡◌, Ok, Err, IfOk, IsTrue, not, map, filter};
+ghost use Rattle.plane_geometry.specs.Ends.{lesser_of, greater_of};
+ghost use Rattle.crease_model.specs.Rules.{is_crease_kind};
+ghost use Rattle.crease_store.specs.Changed.{has_ends, is_piece_between, has_piece, has_line, without_piece, without_line, delete_of, in_kind, with_kind, set_of, clear_of};
+ghost use Rattle.crease_store.specs.Answer.{IsAnswer};
+
+use crate::faults::StoreFault;
+use crease_model::{Kind, Pattern, Piece};
+use plane_geometry::{Point, Segment};
+use std::alloc::{AllocError, Global};
+
+fn lesser<'a>(p: &'a Point, q: &'a Point) -> &'a Point
+    ensures { result.now ≡ lesser_of p.now q.now }
+{
+    if p.cmp(q).is_lt() { p } else { q }
+}
+
+fn greater<'a>(p: &'a Point, q: &'a Point) -> &'a Point
+    ensures { result.now ≡ greater_of p.now q.now }
+{
+    if p.cmp(q).is_lt() { q } else { p }
+}
+
+// Whether two points are the ends of a segment, in either order.
+fn has_ends(from: &Point, to: &Point, s: &Segment) -> bool
+    ensures { result ≡ has_ends from.now to.now s.now }
+{
+    s.from().cmp(lesser(from, to)).is_eq() && s.to().cmp(greater(from, to)).is_eq()
+}
+
+fn has_piece(pieces: &[Piece], from: &Point, to: &Point) -> bool
+    ensures { result ≡ has_piece pieces.now from.now to.now }
+{
+    for piece in pieces {
+        if has_ends(from, to, &piece.segment) {
+            return true;
+        }
+    }
+    false
+}
+
+fn has_line(lines: &[Segment], from: &Point, to: &Point) -> bool
+    ensures { result ≡ has_line lines.now from.now to.now }
+{
+    for line in lines {
+        if has_ends(from, to, line) {
+            return true;
+        }
+    }
+    false
+}
+
+fn pieces_without(
+    alloc: Global,
+    pieces: &[Piece],
+    from: &Point,
+    to: &Point,
+) -> Result<Vec<Piece>, AllocError>
+    ensures { IfOk result (λ rest. rest.items ≡ filter (λ piece. not (is_piece_between from.now to.now piece)) pieces.now) }
+{
+    let mut rest = Vec::with_capacity(alloc, pieces.len())?;
+    for piece in pieces {
+        if !has_ends(from, to, &piece.segment) {
+            rest.push(*piece)?;
+        }
+    }
+    Ok(rest)
+}
+
+fn lines_without(
+    alloc: Global,
+    lines: &[Segment],
+    from: &Point,
+    to: &Point,
+) -> Result<Vec<Segment>, AllocError>
+    ensures { IfOk result (λ rest. rest.items ≡ filter (λ s. not (has_ends from.now to.now s)) lines.now) }
+{
+    let mut rest = Vec::with_capacity(alloc, lines.len())?;
+    for line in lines {
+        if !has_ends(from, to, line) {
+            rest.push(*line)?;
+        }
+    }
+    Ok(rest)
+}
+
+// The piece in another kind where it is the one between two points.
+fn in_kind(piece: &Piece, kind: Kind, from: &Point, to: &Point) -> Piece
+    ensures { result ≡ in_kind kind from.now to.now piece.now }
+{
+    if has_ends(from, to, &piece.segment) {
+        Piece {
+            kind,
+            segment: piece.segment,
+        }
+    } else {
+        *piece
+    }
+}
+
+fn pieces_in_kind(
+    alloc: Global,
+    pieces: &[Piece],
+    kind: Kind,
+    from: &Point,
+    to: &Point,
+) -> Result<Vec<Piece>, AllocError>
+    ensures { IfOk result (λ all. all.items ≡ map (in_kind kind from.now to.now) pieces.now) }
+{
+    let mut all = Vec::with_capacity(alloc, pieces.len())?;
+    for piece in pieces {
+        all.push(in_kind(piece, kind, from, to))?;
+    }
+    Ok(all)
+}
+
+fn delete_piece(
+    alloc: Global,
+    pattern: &Pattern,
+    from: &Point,
+    to: &Point,
+) -> Result<Pattern, AllocError>
+    ensures { IfOk result (λ new. new ≡ without_piece pattern.now from.now to.now) }
+{
+    let pieces = pieces_without(alloc, pattern.pieces(), from, to)?;
+    let aux = Vec::from_slice(alloc, pattern.aux())?;
+    let sheet = pattern.sheet().copy()?;
+    Ok(Pattern::of(sheet, pieces, aux))
+}
+
+fn delete_line(
+    alloc: Global,
+    pattern: &Pattern,
+    from: &Point,
+    to: &Point,
+) -> Result<Pattern, AllocError>
+    ensures { IfOk result (λ new. new ≡ without_line pattern.now from.now to.now) }
+{
+    let pieces = Vec::from_slice(alloc, pattern.pieces())?;
+    let aux = lines_without(alloc, pattern.aux(), from, to)?;
+    let sheet = pattern.sheet().copy()?;
+    Ok(Pattern::of(sheet, pieces, aux))
+}
+
+fn set_piece(
+    alloc: Global,
+    pattern: &Pattern,
+    kind: Kind,
+    from: &Point,
+    to: &Point,
+) -> Result<Pattern, AllocError>
+    requires { IsTrue (is_crease_kind kind) }
+    ensures { IfOk result (λ new. new ≡ with_kind pattern.now kind from.now to.now) }
+{
+    let pieces = pieces_in_kind(alloc, pattern.pieces(), kind, from, to)?;
+    let aux = Vec::from_slice(alloc, pattern.aux())?;
+    let sheet = pattern.sheet().copy()?;
+    Ok(Pattern::of(sheet, pieces, aux))
+}
+
+/// The pattern without the piece between two points, in either order, else without the auxiliary line between them.
+#[tactic(auto, unfolding(crate::specs::Changed::delete_of))]
+pub fn delete(
+    alloc: Global,
+    pattern: &Pattern,
+    from: &Point,
+    to: &Point,
+) -> Result<Pattern, StoreFault>
+    ensures { IsAnswer result (delete_of pattern.now from.now to.now) }
+{
+    if has_piece(pattern.pieces(), from, to) {
+        match delete_piece(alloc, pattern, from, to) {
+            Ok(new) => Ok(new),
+            Err(_) => Err(StoreFault::Memory),
+        }
+    } else if has_line(pattern.aux(), from, to) {
+        match delete_line(alloc, pattern, from, to) {
+            Ok(new) => Ok(new),
+            Err(_) => Err(StoreFault::Memory),
+        }
+    } else {
+        Err(StoreFault::NoSuchPiece)
+    }
+}
+
+/// The pattern with the piece between two points, in either order, turned into a mountain or a valley.
+#[tactic(auto, unfolding(crate::specs::Changed::set_of))]
+pub fn set_kind(
+    alloc: Global,
+    pattern: &Pattern,
+    kind: Kind,
+    from: &Point,
+    to: &Point,
+) -> Result<Pattern, StoreFault>
+    requires { IsTrue (is_crease_kind kind) }
+    ensures { IsAnswer result (set_of pattern.now kind from.now to.now) }
+{
+    if has_piece(pattern.pieces(), from, to) {
+        match set_piece(alloc, pattern, kind, from, to) {
+            Ok(new) => Ok(new),
+            Err(_) => Err(StoreFault::Memory),
+        }
+    } else {
+        Err(StoreFault::NoSuchPiece)
+    }
+}
+
+/// The same sheet with nothing on it.
+pub fn clear(pattern: &Pattern) -> Result<Pattern, StoreFault>
+    ensures { IsAnswer result (Ok (clear_of pattern.now)) }
+{
+    match pattern.sheet().copy() {
+        Ok(sheet) => Ok(Pattern::empty(sheet)),
+        Err(_) => Err(StoreFault::Memory),
+    }
+}

@@ -1,0 +1,231 @@
+//! Merging: chains of pieces become one piece each.
+
+ghost use Rattle.std.specs.Prelude.{◌≡◌, ◌&&◌, Ok, IfOk, IsTrue, filter, nat_eq, length};
+ghost use Rattle.crease_store.specs.Merged.{is_same_kind, begins_at, arrives_at, only_from, only_to, is_alike, are_alike, is_loose, next_piece, last_piece, joined_to, merged_from, merged_among, merge_of};
+ghost use Rattle.crease_model.specs.Rules.{is_ascending, segments_of};
+ghost use Rattle.crease_store.specs.Rising.{beginning_of, arrival_of, is_rising, first_passes, first_alone, AreSorted};
+ghost use Rattle.crease_store.specs.Answer.{IsAnswer};
+
+use crate::faults::StoreFault;
+use crate::placing::place_piece;
+use crease_model::{Kind, Pattern, Piece};
+use plane_geometry::{Point, Segment};
+use std::alloc::{AllocError, Global};
+
+fn same_kind(one: Kind, other: Kind) -> bool
+    ensures { result ≡ is_same_kind one other }
+{
+    match (one, other) {
+        (Kind::Edge, Kind::Edge)
+        | (Kind::Mountain, Kind::Mountain)
+        | (Kind::Valley, Kind::Valley)
+        | (Kind::Aux, Kind::Aux) => true,
+        _ => false,
+    }
+}
+
+fn begins_at(v: &Point, piece: &Piece) -> bool
+    ensures { result ≡ begins_at v.now piece.now }
+{
+    piece.segment.from().cmp(v).is_eq()
+}
+
+fn arrives_at(v: &Point, piece: &Piece) -> bool
+    ensures { result ≡ arrives_at v.now piece.now }
+{
+    piece.segment.to().cmp(v).is_eq()
+}
+
+fn first_begins(v: &Point, pieces: &[Piece]) -> bool
+    ensures { result ≡ first_passes (begins_at v.now) pieces.now }
+{
+    match pieces.first() {
+        Some(piece) => begins_at(v, piece),
+        None => false,
+    }
+}
+
+fn first_arrives(v: &Point, pieces: &[Piece]) -> bool
+    ensures { result ≡ first_passes (arrives_at v.now) pieces.now }
+{
+    match pieces.first() {
+        Some(piece) => arrives_at(v, piece),
+        None => false,
+    }
+}
+
+fn alone_from(v: &Point, pieces: &[Piece]) -> Option<Piece>
+    ensures { result ≡ first_alone (begins_at v.now) pieces.now }
+{
+    match pieces.split_first() {
+        Some((piece, rest)) => {
+            if begins_at(v, piece) && !first_begins(v, rest) {
+                Some(*piece)
+            } else {
+                None
+            }
+        }
+        None => None,
+    }
+}
+
+fn alone_to(v: &Point, pieces: &[Piece]) -> Option<Piece>
+    ensures { result ≡ first_alone (arrives_at v.now) pieces.now }
+{
+    match pieces.split_first() {
+        Some((piece, rest)) => {
+            if arrives_at(v, piece) && !first_arrives(v, rest) {
+                Some(*piece)
+            } else {
+                None
+            }
+        }
+        None => None,
+    }
+}
+
+// The only piece that begins at a point, among pieces sorted by their lesser ends.
+fn only_from(pieces: &[Piece], v: &Point) -> Option<Piece>
+    requires { IsTrue (is_rising beginning_of pieces.now) }
+    ensures { result ≡ only_from pieces.now v.now }
+{
+    let start = pieces.partition_point(|piece| piece.segment.from().cmp(v).is_lt());
+    alone_from(v, &pieces[start..])
+}
+
+// The only piece that arrives at a point, among pieces sorted by their greater ends.
+fn only_to(pieces: &[Piece], v: &Point) -> Option<Piece>
+    requires { IsTrue (is_rising arrival_of pieces.now) }
+    ensures { result ≡ only_to pieces.now v.now }
+{
+    let start = pieces.partition_point(|piece| piece.segment.to().cmp(v).is_lt());
+    alone_to(v, &pieces[start..])
+}
+
+// Whether two pieces have one direction and kind.
+fn alike(one: &Piece, other: &Piece) -> bool
+    ensures { result ≡ is_alike one.now other.now }
+{
+    same_kind(one.kind, other.kind) && one.segment.dir().number() == other.segment.dir().number()
+}
+
+fn both_alike(one: Option<Piece>, other: Option<Piece>) -> bool
+    ensures { result ≡ are_alike one other }
+{
+    match one {
+        Some(p) => match other {
+            Some(q) => alike(&p, &q),
+            None => false,
+        },
+        None => false,
+    }
+}
+
+// Whether exactly two pieces end at a point, in opposite directions and of one kind. The arrivals are the pieces by their
+// greater ends.
+#[tactic(auto, unfolding(crate::specs::Merged::is_loose))]
+fn loose(pieces: &[Piece], arrivals: &[Piece], v: &Point) -> bool
+    requires { AreSorted pieces.now arrivals.now }
+    ensures { result ≡ is_loose pieces.now v.now }
+{
+    both_alike(only_to(arrivals, v), only_from(pieces, v))
+}
+
+// The piece that goes on from one that ends at a loose vertex.
+#[tactic(auto, unfolding(crate::specs::Merged::next_piece))]
+fn next_piece(pieces: &[Piece], arrivals: &[Piece], piece: &Piece) -> Option<Piece>
+    requires { AreSorted pieces.now arrivals.now }
+    ensures { result ≡ next_piece pieces.now piece.now }
+{
+    if loose(pieces, arrivals, piece.segment.to()) {
+        only_from(pieces, piece.segment.to())
+    } else {
+        None
+    }
+}
+
+// The last piece of the chain from a piece on.
+fn last_piece(pieces: &[Piece], arrivals: &[Piece], piece: &Piece) -> Piece
+    requires { AreSorted pieces.now arrivals.now }
+    ensures { result ≡ last_piece (length pieces.now) pieces.now piece.now }
+{
+    let mut last = *piece;
+    for _ in 0..pieces.len() {
+        match next_piece(pieces, arrivals, &last) {
+            Some(next) => last = next,
+            None => return last,
+        }
+    }
+    last
+}
+
+// The piece from the beginning of one to the end of another.
+fn joined_to(piece: &Piece, last: &Piece) -> Piece
+    ensures { result ≡ joined_to piece.now last.now }
+{
+    match Segment::new(piece.segment.from(), last.segment.to()) {
+        Ok(segment) => Piece {
+            kind: piece.kind,
+            segment,
+        },
+        Err(_) => *piece,
+    }
+}
+
+// The chain that begins with a piece.
+#[tactic(auto, unfolding(crate::specs::Merged::merged_from))]
+fn merged_from(pieces: &[Piece], arrivals: &[Piece], piece: &Piece) -> Piece
+    requires { AreSorted pieces.now arrivals.now }
+    ensures { result ≡ merged_from pieces.now piece.now }
+{
+    joined_to(piece, &last_piece(pieces, arrivals, piece))
+}
+
+// The pieces by their greater ends.
+fn arrivals_of(alloc: Global, pieces: &[Piece]) -> Result<Vec<Piece>, AllocError>
+    requires { IsTrue (is_ascending (segments_of pieces.now)) }
+    ensures { IfOk result (λ arrivals. AreSorted pieces.now arrivals.items) }
+{
+    let mut arrivals = Vec::from_slice(alloc, pieces)?;
+    arrivals.sort_unstable_by_key(|piece| *piece.segment.to());
+    Ok(arrivals)
+}
+
+// From the last piece to the first, so that each chain goes near the front.
+fn merged_pieces(alloc: Global, pieces: &[Piece]) -> Result<Vec<Piece>, AllocError>
+    requires { IsTrue (is_ascending (segments_of pieces.now)) }
+    ensures { IfOk result (λ merged. merged.items ≡ merged_among pieces.now pieces.now) }
+{
+    let arrivals = arrivals_of(alloc, pieces)?;
+    let mut merged = Vec::with_capacity(alloc, pieces.len())?;
+    let mut i = pieces.len();
+    while i > 0 {
+        i -= 1;
+        let piece = &pieces[i];
+        if !loose(pieces, &arrivals, piece.segment.from()) {
+            place_piece(&mut merged, &merged_from(pieces, &arrivals, piece))?;
+        }
+    }
+    Ok(merged)
+}
+
+#[tactic(auto, unfolding(crate::specs::Merged::merge_of))]
+fn merge_pattern(alloc: Global, pattern: &Pattern) -> Result<Pattern, AllocError>
+    ensures { IfOk result (λ new. new ≡ merge_of pattern.now) }
+{
+    let pieces = merged_pieces(alloc, pattern.pieces())?;
+    let aux = Vec::from_slice(alloc, pattern.aux())?;
+    let sheet = pattern.sheet().copy()?;
+    Ok(Pattern::of(sheet, pieces, aux))
+}
+
+/// The pattern with all loose vertices taken away at once: where exactly two pieces end at a vertex, in opposite directions
+/// and of one kind, they become one piece.
+pub fn merge(alloc: Global, pattern: &Pattern) -> Result<Pattern, StoreFault>
+    ensures { IsAnswer result (Ok (merge_of pattern.now)) }
+{
+    match merge_pattern(alloc, pattern) {
+        Ok(new) => Ok(new),
+        Err(_) => Err(StoreFault::Memory),
+    }
+}

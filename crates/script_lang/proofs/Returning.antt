@@ -1,0 +1,52 @@
+-- The lines of a printed pattern are its own, so they load as that pattern.
+use Rattle.std.proofs.Common.{◌≡◌, ℕ, ◌+◌, List, [], ◌∷◌, ◌++◌, map, append_assoc, refl, ap, ap₂, ◌∙◌}
+use Rattle.std.proofs.lemmas.List.{map-append}
+use Rattle.plane_geometry.specs.declared.Point.{Point}
+use Rattle.plane_geometry.specs.declared.Segment.{Segment}
+use Rattle.crease_model.specs.declared.Piece.{Piece}
+use Rattle.crease_model.specs.Sheet.{sides_from, sides_of}
+use Rattle.crease_model.specs.View.{PatternView}
+use Rattle.crease_store.specs.OwnLines.{PlainLine, plain_line, side_line, piece_line as piece_loaded, auxiliary_line as auxiliary_loaded, own_lines, OwnLinesAreLoaded}
+use Rattle.cp_text.specs.declared.line.CpLine.{CpLine}
+use Rattle.cp_text.specs.LineText.{side_lines_from, side_lines, piece_line, auxiliary_line, pattern_lines}
+use Rattle.script_lang.specs.Laws.{numbered_lines, PrintedPatternsAreLoaded, PrintedPatternsComeBack}
+
+-- the line to load that a crease line is
+abbrev line_loaded : CpLine → PlainLine
+line_loaded line = record { kind = line.kind; from = line.from; to = line.to }
+
+without_numbers : (n : ℕ) (lines : List CpLine) → map plain_line (numbered_lines n lines) ≡ map line_loaded lines
+without_numbers n [] = refl
+without_numbers n (line ∷ lines) = ap (λ ls. line_loaded line ∷ ls) (without_numbers (n + 1) lines)
+
+sides_from_are : (first : Point) (ps : List Point) → map line_loaded (side_lines_from first ps) ≡ map side_line (sides_from first ps)
+sides_from_are first [] = refl
+sides_from_are first (p ∷ []) = refl
+sides_from_are first (p ∷ q ∷ ps) = ap (λ ls. side_line (record { start = p; end = q }) ∷ ls) (sides_from_are first (q ∷ ps))
+
+sides_are : (corners : List Point) → map line_loaded (side_lines corners) ≡ map side_line (sides_of corners)
+sides_are [] = refl
+sides_are (p ∷ ps) = sides_from_are p (p ∷ ps)
+
+pieces_are : (pieces : List Piece) → map line_loaded (map piece_line pieces) ≡ map piece_loaded pieces
+pieces_are [] = refl
+pieces_are (p ∷ ps) = ap (λ ls. piece_loaded p ∷ ls) (pieces_are ps)
+
+auxiliary_are : (lines : List Segment) → map line_loaded (map auxiliary_line lines) ≡ map auxiliary_loaded lines
+auxiliary_are [] = refl
+auxiliary_are (s ∷ ss) = ap (λ ls. auxiliary_loaded s ∷ ls) (auxiliary_are ss)
+
+lines_are_own : (p : PatternView) → map line_loaded (pattern_lines p) ≡ own_lines p
+lines_are_own p =
+    ap (map line_loaded) (append_assoc (side_lines p.corners) (map piece_line p.pieces) (map auxiliary_line p.aux))
+    ∙ map-append line_loaded (side_lines p.corners) (map piece_line p.pieces ++ map auxiliary_line p.aux)
+    ∙ ap₂ ◌++◌ (sides_are p.corners)
+    (map-append line_loaded (map piece_line p.pieces) (map auxiliary_line p.aux) ∙ ap₂ ◌++◌ (pieces_are p.pieces) (auxiliary_are p.aux))
+
+pub printed_patterns_come_back : PrintedPatternsAreLoaded → OwnLinesAreLoaded → PrintedPatternsComeBack
+printed_patterns_come_back printed own p other rest rules sheet same =
+    record {
+      lines = numbered_lines 1 (pattern_lines p);
+      command = printed p rest;
+      loaded = own p other (numbered_lines 1 (pattern_lines p)) rules sheet same (without_numbers 1 (pattern_lines p) ∙ lines_are_own p);
+    }

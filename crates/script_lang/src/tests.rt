@@ -1,0 +1,261 @@
+//! Tables of scripts with their commands, and of replies with their texts, worked by hand.
+
+use super::*;
+use cp_text::{CpLine, LineFault, write_line, write_number};
+use crease_model::Kind;
+use crease_store::StoreFault;
+use plane_geometry::Point;
+use std::alloc::{AllocError, Global};
+use std::test::Fail;
+
+fn put_point(out: &mut Vec<u8>, point: &Point) -> Result<(), AllocError> {
+    out.push(b' ')?;
+    write_number(out, &point.x)?;
+    out.push(b' ')?;
+    write_number(out, &point.y)
+}
+
+// A word, two points and a line feed.
+fn put_ends(out: &mut Vec<u8>, word: &[u8], from: &Point, to: &Point) -> Result<(), AllocError> {
+    out.extend_from_slice(word)?;
+    put_point(out, from)?;
+    put_point(out, to)?;
+    out.extend_from_slice(b"\n")
+}
+
+fn put_kind_line(
+    out: &mut Vec<u8>,
+    kind: Kind,
+    from: &Point,
+    to: &Point,
+) -> Result<(), AllocError> {
+    let line = CpLine {
+        kind,
+        from: *from,
+        to: *to,
+    };
+    write_line(out, &line)
+}
+
+fn put_refusal(out: &mut Vec<u8>, refusal: Refusal) -> Result<(), AllocError> {
+    write_head(out, &Reply::Refused { refusal })
+}
+
+fn put_stop(out: &mut Vec<u8>, stop: LoadStop) -> Result<(), AllocError> {
+    match stop {
+        LoadStop::Ended => out.extend_from_slice(b"ended\n"),
+        LoadStop::Unended => put_refusal(out, Refusal::LoadUnended),
+        LoadStop::Bad { number, fault } => {
+            let cause = LoadCause::Line { fault };
+            put_refusal(out, Refusal::LoadLine { number, cause })
+        }
+    }
+}
+
+fn put_load(out: &mut Vec<u8>, lines: &LoadLines, stop: LoadStop) -> Result<(), AllocError> {
+    out.extend_from_slice(b"load\n")?;
+    for line in lines.as_slice() {
+        for _ in 0..line.number {
+            out.push(b'.')?;
+        }
+        put_kind_line(out, line.kind, &line.from, &line.to)?;
+    }
+    put_stop(out, stop)
+}
+
+fn put_sheet(out: &mut Vec<u8>, corners: &Corners) -> Result<(), AllocError> {
+    out.extend_from_slice(b"sheet")?;
+    for corner in corners.as_slice() {
+        put_point(out, corner)?;
+    }
+    out.extend_from_slice(b"\n")
+}
+
+fn put_set(out: &mut Vec<u8>, kind: Kind, from: &Point, to: &Point) -> Result<(), AllocError> {
+    out.extend_from_slice(b"set ")?;
+    put_kind_line(out, kind, from, to)
+}
+
+fn put_command(out: &mut Vec<u8>, command: &Command) -> Result<(), AllocError> {
+    match command {
+        Command::Add { kind, from, to } => put_kind_line(out, *kind, from, to),
+        Command::Delete { from, to } => put_ends(out, b"delete", from, to),
+        Command::Set { kind, from, to } => put_set(out, *kind, from, to),
+        Command::Merge => out.extend_from_slice(b"merge\n"),
+        Command::Clear => out.extend_from_slice(b"clear\n"),
+        Command::Sheet { corners } => put_sheet(out, corners),
+        Command::Load { lines, stop } => put_load(out, lines, *stop),
+        Command::Undo => out.extend_from_slice(b"undo\n"),
+        Command::Redo => out.extend_from_slice(b"redo\n"),
+        Command::List => out.extend_from_slice(b"list\n"),
+        Command::Check => out.extend_from_slice(b"check\n"),
+        Command::Bad { fault } => put_refusal(out, refusal_of_line(*fault)),
+    }
+}
+
+// The texts of a script's commands.
+fn shown(alloc: Global, script: &str) -> Result<Vec<u8>, AllocError> {
+    let mut out = Vec::new(alloc);
+    if script.len() < 1_000_000 {
+        for command in read_script(alloc, script.as_bytes())?.as_slice() {
+            put_command(&mut out, command)?;
+        }
+    }
+    Ok(out)
+}
+
+const SCRIPTS: [(&str, &str); 12] = [
+    (
+        "2 0 -200 0 200\n\n4 1r2 0.50 1 -1\r\nundo\nredo\n list \nmerge\ncheck\nclear\ncheck 1",
+        "2 0 -200 0 200\n4 1r2 0.5 1 -1\nundo\nredo\nlist\nmerge\ncheck\nclear\nrefused wrongcount\n",
+    ),
+    (
+        "delete 0 0 1 1\ndelete 0 0 1\ndelete 0 0 1 1 1\ndelete 0 x 0.3 1\ndelete 0 0 0 0.3\n",
+        "delete 0 0 1 1\n\
+         refused wrongcount\n\
+         refused wrongcount\n\
+         refused badnumber 2\n\
+         refused notexact 4\n",
+    ),
+    (
+        "set 2 0 0 1 1\nset 3 0 0 1 1\nset 1 x 0 1 1\nset 4 0 0 1 1\nset 02 0 0 1 1\nset\nset 5 0 0 1\nset 2 0 0 1 68719476737\n",
+        "set 2 0 0 1 1\n\
+         set 3 0 0 1 1\n\
+         refused badkind\n\
+         refused badkind\n\
+         refused badkind\n\
+         refused wrongcount\n\
+         refused wrongcount\n\
+         refused outofrange 5\n",
+    ),
+    (
+        "sheet 0 0 1 0 0 1\nsheet 0 0 1 0\nsheet 0 0 1 0 0 1 1\nsheet 0 0 1 0 0.3 x\nmerge 1\nclear clear\n",
+        "sheet 0 0 1 0 0 1\n\
+         refused wrongcount\n\
+         refused wrongcount\n\
+         refused notexact 5\n\
+         refused wrongcount\n\
+         refused wrongcount\n",
+    ),
+    (
+        "sheet 1 2 3 4 5 6 7 8 9 10 11 12 13 14 15 16 17 18 19 20 21 22 23 24 25 26 27 28 29 30 31 32\n\
+         sheet 1 2 3 4 5 6 7 8 9 10 11 12 13 14 15 16 17 18 19 20 21 22 23 24 25 26 27 28 29 30 31 32 33\n\
+         sheet 1 2 3 4 5 6 7 8 9 10 11 12 13 14 15 16 17 18 19 20 21 22 23 24 25 26 27 28 29 30 31 32 33 34\n",
+        "sheet 1 2 3 4 5 6 7 8 9 10 11 12 13 14 15 16 17 18 19 20 21 22 23 24 25 26 27 28 29 30 31 32\n\
+         refused wrongcount\n\
+         refused wrongcount\n",
+    ),
+    // Blank lines are counted, and what follows `end` is no part of the block.
+    (
+        "load\n2 0 0 1 1\n\n \t\r\n 1 0 0 1 0 \n end \nend\nundo\n",
+        "load\n.2 0 0 1 1\n....1 0 0 1 0\nended\nrefused unknownword\nundo\n",
+    ),
+    // A bad line ends the lines, and the block goes on to its end.
+    (
+        "load\r\n2 0 0 1 1\n9 0 0 1 1\n3 0 0 1 1\nundo\nend\r\nredo\n",
+        "load\n.2 0 0 1 1\nrefused load 2 badkind\nredo\n",
+    ),
+    // In a block no other line is a command, `load` and a longer `end` among them.
+    ("load\nload\nend", "load\nrefused load 1 unknownword\n"),
+    (
+        "load\n2 0 0 1 1\nend 2\nend\n",
+        "load\n.2 0 0 1 1\nrefused load 2 unknownword\n",
+    ),
+    ("load\n2 0 0 1 x\n", "load\nrefused load 1 badnumber 4\n"),
+    ("undo\nload", "undo\nload\nrefused load unended\n"),
+    (
+        "load 1\nload\n2 0 0 1 1\n",
+        "refused wrongcount\nload\n.2 0 0 1 1\nrefused load unended\n",
+    ),
+];
+
+#[test]
+fn reads_scripts(rt: HostRuntime) -> Result<(), Fail> {
+    for (script, text) in SCRIPTS {
+        assert_eq!(rt; shown(rt.alloc(), script)?.as_slice(), text.as_bytes());
+    }
+    Ok(())
+}
+
+// A word and this many spaces.
+fn padded(alloc: Global, word: &str, spaces: usize) -> Result<String, AllocError> {
+    let mut line = String::from_str(alloc, word)?;
+    for _ in 0..spaces {
+        line.push(' ')?;
+    }
+    Ok(line)
+}
+
+#[test]
+fn bounds_the_lines_of_a_block(rt: HostRuntime) -> Result<(), Fail> {
+    let alloc = rt.alloc();
+    let load = padded(alloc, "load", 996)?;
+    assert!(rt; is_load(load.as_bytes()));
+    let load = padded(alloc, "load", 997)?;
+    assert!(rt; !is_load(load.as_bytes()));
+    let script = format!(in alloc;
+        "{load}\nload\n2 0 0 1 1\n{}\nend\n",
+        padded(alloc, "end", 998)?
+    )?;
+    assert_eq!(rt;
+        shown(alloc, script.as_str())?.as_slice(),
+        b"refused longline\nload\n.2 0 0 1 1\nrefused load 2 longline\n".as_slice()
+    );
+    Ok(())
+}
+
+#[test]
+fn writes_refusals(rt: HostRuntime) -> Result<(), Fail> {
+    let add = LoadCause::Add {
+        fault: StoreFault::Crossing { piece: 7 },
+    };
+    let line = LoadCause::Line {
+        fault: LineFault::NotExact { place: 2 },
+    };
+    let rows: [(Refusal, &str); 8] = [
+        (Refusal::EdgeOffBorder, "refused edgeoffborder\n"),
+        (Refusal::Crossing { piece: 1 }, "refused crossing 1\n"),
+        (Refusal::NoSuchPiece, "refused nosuchpiece\n"),
+        (Refusal::BadSheet { corner: 3 }, "refused badsheet 3\n"),
+        (
+            Refusal::LoadLine {
+                number: 12,
+                cause: add,
+            },
+            "refused load 12 crossing 7\n",
+        ),
+        (
+            Refusal::LoadLine {
+                number: 1,
+                cause: line,
+            },
+            "refused load 1 notexact 2\n",
+        ),
+        (Refusal::LoadUnended, "refused load unended\n"),
+        (
+            Refusal::TooManyPieces { pieces: 2001 },
+            "refused toomanypieces 2001\n",
+        ),
+    ];
+    for (refusal, text) in rows {
+        let mut out = Vec::new(rt.alloc());
+        put_refusal(&mut out, refusal)?;
+        assert_eq!(rt; out.as_slice(), text.as_bytes());
+    }
+    assert_eq!(rt; refusal_of_store(StoreFault::Memory), None);
+    Ok(())
+}
+
+#[test]
+fn takes_commands_one_by_one(rt: HostRuntime) -> Result<(), Fail> {
+    let mut list = Vec::new(rt.alloc());
+    if let Some(command) = read_command(rt.alloc(), b"clear")? {
+        list.push(command)?;
+    }
+    let commands = Commands::of(list);
+    assert_eq!(rt; commands.as_slice().len(), 1);
+    for command in commands.into_vec() {
+        assert!(rt; matches!(command, Command::Clear));
+    }
+    Ok(())
+}
