@@ -81,6 +81,9 @@ fn insert_meeting(points: &mut Vec<Point>, s: &Segment, u: &Segment) -> Result<b
 fn insert_cuts(points: &mut Vec<Point>, s: &Segment, u: &Segment) -> Result<bool, AllocError>
     ensures { IfOk result (λ found. with_piece_cuts (stretch_of s.now) points.old.items u.now ≡ some_if found points.new.items) }
 {
+    if !share_point(s, u) {
+        return Ok(true);
+    }
     insert_point_on(points, s, u.from())?;
     insert_point_on(points, s, u.to())?;
     insert_meeting(points, s, u)

@@ -6,10 +6,11 @@ use Rattle.surd_number.specs.declared.Sgn.TheVariants.{Neg, Zero, Pos}
 use Rattle.surd_number.specs.Number.{Number, IsSame, whole, sum_of, difference_of, product_of, negative_of, half_of, sign_of}
 use Rattle.surd_number.specs.RingTool.{◌⊕◌, ◌⊝◌, ◌⊗◌, ⊖◌, con, halved, v0, v1, v2, v3, v4, v5, v6, v7, v8}
 use Rattle.surd_number.specs.NumberLaws.{number_ring, number_ring_from}
-use Rattle.plane_geometry.specs.Position.{Position, vector_of, cross_of, dot_of, is_same_position}
+use Rattle.std.specs.Ordering.{is_lt}
+use Rattle.plane_geometry.specs.Position.{Position, vector_of, cross_of, dot_of, compare_positions, is_same_position}
 use Rattle.plane_geometry.specs.Direction.{direction_vector, side_of, is_positive, is_negative, is_zero}
 use Rattle.plane_geometry.specs.Stored.{IsStretch}
-use Rattle.plane_geometry.specs.Stretch.{Stretch, is_between, is_end, is_on, is_in_line, is_parted, is_crossing, is_touching, ends_at_ends, has_same_ends, meets_at_ends, is_overlapping, ShareAPoint, MeetAtEnds, ShareTwoPoints}
+use Rattle.plane_geometry.specs.Stretch.{Stretch, is_apart, is_between, is_end, is_on, is_in_line, is_parted, is_crossing, is_touching, ends_at_ends, has_same_ends, meets_at_ends, is_overlapping, ShareAPoint, MeetAtEnds, ShareTwoPoints}
 use Rattle.surd_number.specs.SignLaws.{opposite_sign, times_sign, sign_of-same, sign_of-negative}
 use Rattle.plane_geometry.specs.SideLaws.{then_sign, may_sum, lex_sign, order_of, order_self, order_turned, order_chain, side_from, side_same, square_sign, along_lex, along_cross, turn_of, product_by_zero, product_by_pos}
 use Rattle.plane_geometry.specs.CrossLaws.{turn_inverse}
@@ -574,3 +575,23 @@ module _ (s u : Stretch) (h : IsStretch s) (k : IsStretch u) where
 
       from : ShareTwoPoints s u → is_overlapping s u ≡ true
       from w = by_order w (order_of w.0 w.1) refl
+
+-- ---- apart in the order of points
+
+-- no point of s is on u where s ends before u begins
+ends_before : (s u : Stretch) → is_lt (compare_positions s.to u.from) ≡ true → (p : Position) → LiesOn p s → LiesOn p u → ⊥
+ends_before s u e p l m =
+    let first : order_of s.to u.from ≡ Pos = positive_is (order_of s.to u.from) (sym (before_is s.to u.from) ∙ e) in
+    let then : order_of p u.from ≡ Pos = then_before p s.to u.from l.before_to first in
+    let back : is_negative (order_of u.from p) ≡ true = ap is_negative (order_turned p u.from ∙ ap opposite_sign then) in
+    both_ways (is_negative (order_of u.from p)) m.after_from back
+
+pub apart_untouched : (s u : Stretch) → IsStretch s → IsStretch u → is_apart s u ≡ true → is_touching s u ≡ false
+apart_untouched s u h k e = false_from_ne_true (is_touching s u) (λ f.
+    let w = (touching_is s u h k).0 f in
+    let l = on_parts w.0 s h w.1 in
+    let m = on_parts w.0 u k w.2 in
+    elim (or_cases (is_lt (compare_positions s.to u.from)) (is_lt (compare_positions u.to s.from)) e) [
+      | inl a ↦ ends_before s u a w.0 l m
+      | inr b ↦ ends_before u s b w.0 m l
+    ])

@@ -36,6 +36,10 @@ is_parted p q s =
 abbrev pub is_crossing : Stretch → Stretch → Bool
 is_crossing s u = is_parted u.from u.to s && is_parted s.from s.to u
 
+-- one ends before the other begins, in the order of points
+abbrev pub is_apart : Stretch → Stretch → Bool
+is_apart s u = is_lt (compare_positions s.to u.from) || is_lt (compare_positions u.to s.from)
+
 -- some point is on both: an end of one lies on the other, or they cross
 abbrev pub is_touching : Stretch → Stretch → Bool
 is_touching s u = (is_on s.from u || is_on s.to u) || ((is_on u.from s || is_on u.to s) || is_crossing s u)

@@ -2,7 +2,7 @@
 
 ghost use Rattle.std.specs.Prelude.{◌≡◌, ◌↔◌, IsTrue};
 ghost use Rattle.plane_geometry.specs.Position.{position_of};
-ghost use Rattle.plane_geometry.specs.Stretch.{is_between, is_end, is_on, is_parted, is_crossing, is_touching, ends_at_ends, has_same_ends, meets_at_ends, is_overlapping, ShareAPoint, MeetAtEnds, ShareTwoPoints};
+ghost use Rattle.plane_geometry.specs.Stretch.{is_apart, is_between, is_end, is_on, is_parted, is_crossing, is_touching, ends_at_ends, has_same_ends, meets_at_ends, is_overlapping, ShareAPoint, MeetAtEnds, ShareTwoPoints};
 ghost use Rattle.plane_geometry.specs.Common.{is_parallel};
 ghost use Rattle.plane_geometry.specs.SegmentView.{stretch_of};
 
@@ -53,10 +53,21 @@ fn crossing(s: &Segment, u: &Segment) -> bool
     parted(&u.from, &u.to, s) && parted(&s.from, &s.to, u)
 }
 
+/// Whether one segment ends before the other begins, in the order of points.
+fn apart(s: &Segment, u: &Segment) -> bool
+    ensures { result ≡ is_apart (stretch_of s.now) (stretch_of u.now) }
+{
+    is_before(&s.to, &u.from) || is_before(&u.to, &s.from)
+}
+
 /// Whether an end of one segment is on the other, or they cross.
 fn touching(s: &Segment, u: &Segment) -> bool
     ensures { result ≡ is_touching (stretch_of s.now) (stretch_of u.now) }
 {
+    // Most pairs are told by this alone, without a side.
+    if apart(s, u) {
+        return false;
+    }
     (on_segment(&s.from, u) || on_segment(&s.to, u))
         || ((on_segment(&u.from, s) || on_segment(&u.to, s)) || crossing(s, u))
 }
