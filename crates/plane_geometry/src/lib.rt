@@ -18,7 +18,7 @@ ghost use Rattle.plane_geometry.specs.LineStored.{PassesThroughPoint};
 
 pub use directions::direction;
 pub use lines::side;
-pub use meeting::{MeetFault, common_point, meet};
+pub use meeting::{MeetFault, common_point, cross_unit, meet};
 pub use segments::{between_ends, meets_at_ends, on_segment, overlaps, parallel, share_point};
 pub use sides::side_from;
 use sides::{cross_at, is_before};
@@ -210,8 +210,10 @@ impl PartialOrd for Segment {
 }
 
 impl Line {
-    ghost use Rattle.std.specs.Prelude.{◌%◌};
+    ghost use Rattle.std.specs.Prelude.{◌%◌, ◌*◌, ◌^◌};
     ghost use Rattle.surd_number.specs.Exact.{IsWideOf};
+    ghost use Rattle.surd_number.specs.Fits.{FitsOver};
+    ghost use Rattle.surd_number.specs.Value.{wide_number_of};
     ghost use Rattle.plane_geometry.specs.Position.{Position, cross_of};
     ghost use Rattle.plane_geometry.specs.Direction.{direction_vector, side_of};
     ghost use Rattle.plane_geometry.specs.DirView.{dir_number};
@@ -241,7 +243,8 @@ impl Line {
 
     /// The cross product of the direction with any point of the line.
     pub fn offset(&self) -> Wide
-        ensures { result ≡ line_offset self.now }
+        ensures value { result ≡ line_offset self.now }
+        ensures fits { FitsOver (6 * 2 ^ 52) 16 (wide_number_of result) }
     {
         self.offset
     }

@@ -57,8 +57,8 @@ const ROOTS: [[u8; 8]; 8] = [
     [0, 0, 0, 0, 0, 0, 0, 0],
 ];
 
-/// The cross product of direction `m` with direction `n`, by its powers of `sqrt 2 - 1` and of `sqrt 2`.
-fn cross_unit(m: u8, n: u8) -> (u8, u8)
+/// The cross product of direction `m` with a later direction `n`, by its powers of `sqrt 2 - 1` and of `sqrt 2`.
+pub fn cross_unit(m: u8, n: u8) -> (u8, u8)
     requires first { m < 8 }
     requires second { n < 8 }
     ensures tangents { result.0 ≡ cross_tangents m n }

@@ -209,7 +209,7 @@ impl PartialOrd for Surd {
 }
 
 impl Wide {
-    ghost use Rattle.surd_number.specs.Number.{IsSame, IsWithin, sum_of, difference_of, product_of, sign_of, unit_of, half_root};
+    ghost use Rattle.surd_number.specs.Number.{IsSame, IsWithin, sum_of, difference_of, product_of, sign_of, unit_of, unit_inverse_of, half_root};
     ghost use Rattle.surd_number.specs.Stored.{IsWide};
     ghost use Rattle.surd_number.specs.Fits.{FitsOver};
     ghost use Rattle.surd_number.specs.Value.{number_of, wide_number_of, triple_number_of};
@@ -256,6 +256,16 @@ impl Wide {
         Wide::exactly(&self.triple().times(&Triple::unit(i, j)))
     }
 
+    /// The exact quotient by `t^i * (sqrt 2)^j`, where t is `sqrt 2 - 1`.
+    pub fn over_unit(&self, i: u8, j: u8) -> Wide
+        requires few { i ≤ 1 }
+        requires few_roots { j ≤ 3 }
+        requires fits { IsWide (product_of (wide_number_of self.now) (unit_inverse_of i j)) }
+        ensures { IsWideOf result (product_of (wide_number_of self.now) (unit_inverse_of i j)) }
+    {
+        Wide::exactly(&self.triple().times(&Triple::unit_inverse(i, j)))
+    }
+
     /// The exact product with `sqrt 2 / 2`.
     pub fn half_root(&self) -> Wide
         requires { IsWide (product_of (wide_number_of self.now) half_root) }
@@ -266,7 +276,7 @@ impl Wide {
 
     /// The sign.
     pub fn sgn(&self) -> Sgn
-        requires { IsWithin 62 20 (wide_number_of self.now) }
+        requires { IsWithin 63 20 (wide_number_of self.now) }
         ensures { result ≡ sign_of (wide_number_of self.now) }
     {
         self.triple().sgn()
