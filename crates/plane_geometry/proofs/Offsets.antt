@@ -1,11 +1,11 @@
 -- Bounds of the offsets of lines, and sides of lines.
 use Rattle.std.proofs.Common.{◌≡◌, ℕ, ◌+◌, ◌*◌, ◌^◌, subst}
 use Rattle.std.proofs.Math.Logic.{∥∥₁_elim}
-use Rattle.surd_number.specs.Number.{Number, IsSame, difference_of, sign_of}
+use Rattle.surd_number.specs.Number.{Number, IsSame, difference_of, sign_of, FitsOver}
 use Rattle.surd_number.specs.NumberLaws.{IsSame-refl, IsSame-trans, difference_of-same}
 use Rattle.surd_number.specs.SignLaws.{sign_of-same}
 use Rattle.surd_number.specs.Value.{number_of, wide_number_of}
-use Rattle.surd_number.specs.Fits.{FitsOver, fits_stored, fits_prop}
+use Rattle.surd_number.specs.FitsLaws.{fits_stored, fits_prop}
 use Rattle.plane_geometry.specs.declared.Point.{Point}
 use Rattle.plane_geometry.specs.declared.Line.{Line}
 use Rattle.plane_geometry.specs.Position.{Position, position_of, cross_of}

@@ -1,10 +1,10 @@
 -- What is computed with Wides: the values, and that they fit.
 use Rattle.std.proofs.Common.{◌≡◌, ℕ, zero, suc, ◌+◌, ◌-◌, ◌*◌, ◌^◌, ◌≤◌, Bool, true, false, cond, ltb, [], ◌∷◌, pos, refl, subst, arith, lit≤}
-use Rattle.surd_number.specs.Number.{Number, IsSame, IsCanonical, IsWithin, sum_of, difference_of, product_of, negative_of, tangent, unit_of}
+use Rattle.surd_number.specs.Number.{Number, IsSame, IsCanonical, IsWithin, sum_of, difference_of, product_of, negative_of, tangent, unit_of, FitsOver}
 use Rattle.surd_number.specs.Stored.{IsWide}
 use Rattle.surd_number.specs.RingTool.{◌⊝◌, ◌⊗◌, ⊖◌, con, v0, v1, v2}
 use Rattle.surd_number.specs.NumberLaws.{number_ring, number_ring_from, number_ring_from_two, sum_of-same, difference_of-same, product_of-same, IsSame-trans, IsSame-refl}
-use Rattle.surd_number.specs.Fits.{FitsOver, fits_same, fits_more, fits_sum, fits_difference, fits_negative, fits_tangent, within_from_fits, wide_from_fits}
+use Rattle.surd_number.specs.FitsLaws.{fits_same, fits_more, fits_sum, fits_difference, fits_negative, fits_tangent, within_from_fits, wide_from_fits}
 use Rattle.plane_geometry.specs.declared.sides.Part.{Part}
 use Rattle.plane_geometry.specs.declared.sides.Part.TheVariants.{Nought, One, Tangent, MinusOne, MinusTangent}
 use Rattle.plane_geometry.specs.Position.{Position, vector_of, opposite_of, cross_of, dot_of}

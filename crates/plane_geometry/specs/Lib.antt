@@ -9,6 +9,7 @@ pub mod LineStored
 pub mod LineView
 pub mod Order
 pub mod SegmentOf
+pub mod Common
 pub mod Multiple
 pub mod CrossTable
 pub mod SideLaws
@@ -22,5 +23,3 @@ pub mod CommonPoints
 pub mod MeetLaws
 pub mod LineLaws
 pub mod OrderLaws
-pub mod Common
-pub mod CommonLaws

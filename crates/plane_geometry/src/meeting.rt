@@ -1,21 +1,17 @@
 //! The common point of two lines.
 
 ghost use Rattle.std.specs.Prelude.{◌≡◌, ◌≢◌, ◌≤◌, ◌<◌, ◌^◌, ◌↔◌, pos, IfOk, IsTrue, MatchResult};
-ghost use Rattle.std.specs.Bool.{IsFalse};
 ghost use Rattle.std.specs.Result.{result_ok};
-ghost use Rattle.surd_number.specs.Number.{IsSame, product_of, difference_of, power_of, half_root, unit_inverse_of};
+ghost use Rattle.surd_number.specs.Number.{IsSame, product_of, difference_of, power_of, half_root, unit_inverse_of, FitsOver};
 ghost use Rattle.surd_number.specs.Stored.{IsSurd};
 ghost use Rattle.surd_number.specs.Value.{number_of, wide_number_of};
 ghost use Rattle.surd_number.specs.Exact.{IsWideOf, IsSurdOf};
-ghost use Rattle.surd_number.specs.Fits.{FitsOver};
 ghost use Rattle.plane_geometry.specs.Position.{Position, position_of};
 ghost use Rattle.plane_geometry.specs.CrossTable.{cross_tangents, cross_roots};
 ghost use Rattle.plane_geometry.specs.LineView.{line_number, IsOnLine, HasNoCommonPoint};
-ghost use Rattle.plane_geometry.specs.MeetLaws.{meeting_of};
 ghost use Rattle.plane_geometry.specs.Part.{part_number};
 ghost use Rattle.plane_geometry.specs.SegmentView.{stretch_of};
-ghost use Rattle.plane_geometry.specs.Stretch.{is_in_line};
-ghost use Rattle.plane_geometry.specs.Common.{is_parallel, common_of, HaveNoPointInLine};
+ghost use Rattle.plane_geometry.specs.Common.{is_parallel, common_of, meeting_of, IsOnBothLines, IsMeetingOutOfRange};
 
 use crate::sides::{Part, parts, scaled};
 use crate::{Line, Point, Segment};
@@ -70,44 +66,6 @@ pub fn cross_unit(m: u8, n: u8) -> (u8, u8)
     )
 }
 
-/// `w / (sqrt 2 - 1)`, which is `t * w + 2 * w`.
-fn over_tangent(w: &Wide) -> Wide
-    requires { FitsOver (2 ^ 60) 16 (wide_number_of w.now) }
-    ensures { IsWideOf result (product_of (wide_number_of w.now) (record { a = pos 1; b = pos 1; k = 0 })) }
-{
-    w.times_unit(1, 0).plus(&w.times_unit(0, 2))
-}
-
-/// `w / sqrt(2)^j`.
-#[inline(always)]
-fn over_roots(w: &Wide, j: u8) -> Wide
-    requires few { j ≤ 3 }
-    requires fits { FitsOver (2 ^ 70) 16 (wide_number_of w.now) }
-    ensures { IsWideOf result (product_of (wide_number_of w.now) (power_of half_root j)) }
-{
-    match j {
-        0 => *w,
-        1 => w.half_root(),
-        2 => w.half_root().half_root(),
-        _ => w.half_root().half_root().half_root(),
-    }
-}
-
-/// The quotient by a unit.
-#[inline(always)]
-fn over_unit(w: &Wide, i: u8, j: u8) -> Wide
-    requires few { i ≤ 1 }
-    requires few_roots { j ≤ 3 }
-    requires fits { FitsOver (2 ^ 60) 16 (wide_number_of w.now) }
-    ensures { IsWideOf result (product_of (wide_number_of w.now) (unit_inverse_of i j)) }
-{
-    if i == 0 {
-        over_roots(w, j)
-    } else {
-        over_roots(&over_tangent(w), j)
-    }
-}
-
 /// `a * o - b * u`, for offsets `o` and `u` of lines.
 fn coordinate(a: Part, l: &Line, b: Part, m: &Line) -> Wide
     ensures value { IsWideOf result (difference_of (product_of (part_number a) (wide_number_of l.now.offset)) (product_of (part_number b) (wide_number_of m.now.offset))) }
@@ -137,16 +95,16 @@ fn meet_later(l: &Line, m: &Line) -> Result<Point, MeetFault>
     let (i, j) = cross_unit(l.direction, m.direction);
     let (l_x, l_y) = parts(l.dir());
     let (m_x, m_y) = parts(m.dir());
-    let x = over_unit(&coordinate(m_x, l, l_x, m), i, j);
-    let y = over_unit(&coordinate(m_y, l, l_y, m), i, j);
+    let x = coordinate(m_x, l, l_x, m).over_unit(i, j);
+    let y = coordinate(m_y, l, l_y, m).over_unit(i, j);
     narrowed(&x, &y)
 }
 
 /// The common point of the lines of two segments.
 pub fn common_point(s: &Segment, u: &Segment) -> Result<Point, MeetFault>
     ensures parallel { (result ≡ Err MeetFault.Parallel) ↔ IsTrue (is_parallel (stretch_of s.now) (stretch_of u.now)) }
-    ensures point { IfOk result (λ p. IsTrue (is_in_line (position_of p) (stretch_of s.now)) × IsTrue (is_in_line (position_of p) (stretch_of u.now))) }
-    ensures out_of_range { (result ≡ Err MeetFault.OutOfRange) ↔ (IsFalse (is_parallel (stretch_of s.now) (stretch_of u.now)) × HaveNoPointInLine (stretch_of s.now) (stretch_of u.now)) }
+    ensures point { IfOk result (λ p. IsOnBothLines (position_of p) s.now u.now) }
+    ensures out_of_range { (result ≡ Err MeetFault.OutOfRange) ↔ IsMeetingOutOfRange s.now u.now }
     ensures value { result_ok result ≡ common_of (stretch_of s.now) (stretch_of u.now) }
 {
     meet(

@@ -15,7 +15,7 @@ pub(crate) struct Triple {
 }
 
 impl Triple {
-    ghost use Rattle.surd_number.specs.Number.{IsSame, IsCanonical, IsWithin, sum_of, product_of, negative_of, difference_of, sign_of, unit_of, unit_inverse_of};
+    ghost use Rattle.surd_number.specs.Number.{IsSame, IsCanonical, IsWithin, sum_of, product_of, negative_of, difference_of, half_of, sign_of, unit_of, unit_inverse_of};
     ghost use Rattle.surd_number.specs.Value.{triple_number_of};
 
     /// `self + other`.
@@ -41,6 +41,18 @@ impl Triple {
             a: -self.a,
             b: -self.b,
             k: self.k,
+        }
+    }
+
+    /// Half of it.
+    pub(crate) fn half(&self) -> Triple
+        requires { IsWithin 80 20 (triple_number_of self.now) }
+        ensures { triple_number_of result ≡ half_of (triple_number_of self.now) }
+    {
+        Triple {
+            a: self.a,
+            b: self.b,
+            k: self.k + 1,
         }
     }
 

@@ -1,8 +1,8 @@
 use Rattle.std.proofs.Common.{◌≡◌, ℕ, ◌*◌, ◌^◌, ◌≤◌, ℤ, unsigned_abs, neg_ℤ, ◌+ℤ◌, ◌*ℤ◌, ap₂, sym, subst, ◌∙◌, lit<, arith}
 use Rattle.std.proofs.Math.Nat.{pow-le-pow_right}
 use Rattle.surd_number.specs.Number.{Number, power, difference_of}
-use Rattle.surd_number.specs.Canonical.{unsigned_abs-neg}
-use Rattle.surd_number.specs.Fits.{sum_bound, product_bound}
+use Rattle.surd_number.specs.CanonicalLaws.{unsigned_abs-neg}
+use Rattle.surd_number.specs.FitsLaws.{sum_bound, product_bound}
 use Rattle.surd_number.specs.Value.{number_of, triple_number_of}
 use Rattle.surd_number.proofs.SurdOrd.cmp.Goals as goal
 

@@ -10,17 +10,9 @@ use lib.IntN.{ℤ_set}
 use Rattle.surd_number.specs.RingTool.{◌⊕◌, ◌⊗◌, v0, v1, v2}
 use Rattle.surd_number.specs.IntRing.{int_ring}
 use Rattle.surd_number.specs.NumberLaws.{IsSame-refl, IsSame-sym, IsSame-trans, sum_of-same, negative_of-same, product_of-same, scaled-same, aligned-same}
-use Rattle.surd_number.specs.Number.{Number, power, IsSame, IsCanonical, IsWithin, sum_of, negative_of, difference_of, product_of, unit_of, tangent, half_root}
+use Rattle.surd_number.specs.Number.{Number, power, IsSame, IsCanonical, IsWithin, FitsOver, sum_of, negative_of, difference_of, product_of, unit_of, tangent, half_root}
 use Rattle.surd_number.specs.Stored.{IsStored, IsStoredWide, IsSurd, IsWide}
-use Rattle.surd_number.specs.Canonical.{unsigned_abs-neg, reduction_of}
-
--- over 2^places, x has whole numerators of at most `most` in absolute value
-pub record FitsOver (most places : ℕ) (x : Number) : Type 0 where
-  pub a : ℤ
-  pub b : ℤ
-  pub same : IsSame x (record { a = a; b = b; k = places })
-  pub a_fits : unsigned_abs a ≤ most
-  pub b_fits : unsigned_abs b ≤ most
+use Rattle.surd_number.specs.CanonicalLaws.{unsigned_abs-neg, reduction_of}
 
 same_prop : (x y : Number) → IsProp (IsSame x y)
 same_prop x y = hlevel ℤ_set
