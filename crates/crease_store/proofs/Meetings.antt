@@ -13,7 +13,7 @@ use Rattle.plane_geometry.specs.Stored.{IsStretch}
 use Rattle.plane_geometry.specs.Stretch.{Stretch, MeetAtEnds, is_between, is_end, is_on, is_parted, is_crossing, has_same_ends, ends_at_ends}
 use Rattle.plane_geometry.specs.SideLaws.{order_of, turn_sign, product_by_zero}
 use Rattle.plane_geometry.specs.StretchLaws.{zero_is, on_parts}
-use Rattle.plane_geometry.specs.CommonPoints.{LiesBetween, between_from_parts, crossing_point, meeting_is, side_on_line}
+use Rattle.plane_geometry.specs.CommonPointLaws.{LiesBetween, between_from_parts, crossing_point, meeting_is, side_on_line}
 use Rattle.crease_model.specs.declared.Kind.{Kind}
 use Rattle.crease_model.specs.declared.Piece.{Piece}
 use Rattle.crease_model.specs.Rules.{AllMeetAtEnds, is_ascending, segments_of}

@@ -13,7 +13,7 @@ use Rattle.plane_geometry.specs.Stretch.{Stretch, is_in_line}
 use Rattle.plane_geometry.specs.StretchLaws.{zero_is}
 use Rattle.plane_geometry.specs.LineView.{line_number, side_of_line, IsOnLine, IsPoint, HasNoCommonPoint}
 use Rattle.plane_geometry.specs.Common.{is_parallel, common_of}
-use Rattle.plane_geometry.proofs.CommonLaws.{side_modulo, side_from_modulo, common_some, common_none, common_parallel}
+use Rattle.plane_geometry.specs.CommonLaws.{side_modulo, side_from_modulo, common_some, common_none, common_parallel}
 use Rattle.plane_geometry.proofs.Meets.{is_point}
 
 module _ (s u : Stretch) (l m : Line) (few_s : s.dir < 16) (few_u : u.dir < 16) (at_l : line_number l ≡ s.dir % 8) (at_m : line_number m ≡ u.dir % 8) (sides_l : (q : Position) → side_of_line l q ≡ side_of s.from (line_number l) q) (sides_m : (q : Position) → side_of_line m q ≡ side_of u.from (line_number m) q) where

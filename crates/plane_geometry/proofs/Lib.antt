@@ -2,5 +2,4 @@ pub mod Wides
 pub mod Faults
 pub mod Offsets
 pub mod Meets
-pub mod CommonLaws
 pub mod CommonAnswer

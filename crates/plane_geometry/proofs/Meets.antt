@@ -1,19 +1,18 @@
 -- What `meet` computes with Wides, and when it refuses.
-use Rattle.std.proofs.Common.{◌≡◌, ℕ, zero, suc, ◌+◌, ◌*◌, ◌^◌, ◌<◌, ◌≤◌, ℤ, pos, unsigned_abs, arith, Result, Ok, Err, MatchResult, IfOk, refl, sym, ap, subst, lit≤}
+use Rattle.std.proofs.Common.{◌≡◌, ℕ, zero, suc, ◌+◌, ◌*◌, ◌^◌, ◌<◌, ◌≤◌, ℤ, pos, unsigned_abs, arith, Result, Ok, Err, MatchResult, IfOk, ap, subst, lit≤}
 use Rattle.std.proofs.lemmas.Nat.{mul-le}
-use Rattle.surd_number.specs.Number.{Number, IsSame, sum_of, difference_of, product_of, power_of, unit_of, unit_inverse_of, half_root, FitsOver}
+use Rattle.surd_number.specs.Number.{Number, IsSame, difference_of, product_of, unit_inverse_of, FitsOver}
 use Rattle.surd_number.specs.Stored.{IsWide, IsSurd}
 use Rattle.surd_number.specs.Value.{number_of, wide_number_of}
 use Rattle.surd_number.specs.Exact.{IsSurdOf}
-use Rattle.surd_number.specs.RingTool.{◌⊕◌, ◌⊗◌, con, v0, v1, v2, v3}
-use Rattle.surd_number.specs.NumberLaws.{number_ring, number_ring_from, number_ring_from_two, number_ring_from_three, product_of-same, difference_of-same, IsSame-trans, IsSame-sym, IsSame-refl}
-use Rattle.surd_number.specs.FitsLaws.{fits_same, fits_more, fits_unit, fits_times, fits_half_root, wide_from_fits}
+use Rattle.surd_number.specs.NumberLaws.{product_of-same, difference_of-same, IsSame-trans, IsSame-sym, IsSame-refl}
+use Rattle.surd_number.specs.FitsLaws.{fits_times, wide_from_fits}
 use Rattle.plane_geometry.specs.declared.Point.{Point}
 use Rattle.plane_geometry.specs.declared.Line.{Line}
 use Rattle.plane_geometry.specs.declared.meeting.MeetFault.{MeetFault}
 use Rattle.plane_geometry.specs.declared.meeting.MeetFault.TheVariants.{OutOfRange}
 use Rattle.plane_geometry.specs.Position.{Position, position_of, cross_of}
-use Rattle.plane_geometry.specs.Direction.{one, direction_vector}
+use Rattle.plane_geometry.specs.Direction.{direction_vector}
 use Rattle.plane_geometry.specs.LineView.{line_number, line_offset, IsOnLine, IsPoint, HasNoCommonPoint}
 use Rattle.plane_geometry.specs.Common.{meeting_of}
 use Rattle.plane_geometry.specs.MeetLaws.{meeting_on_first, meeting_on_second, meeting_only, on_line_offset, on_line_from_offset}

@@ -1,6 +1,6 @@
 -- Laws of directions: from one point to another it goes in one direction at most, back in the opposite one, and it goes in
 -- a direction exactly where the difference of the points is a positive multiple of it.
-use Rattle.std.proofs.Common.{◌≡◌, ◌↔◌, ℕ, zero, suc, ◌+◌, ◌-◌, ◌%◌, ◌<◌, ◌≤◌, Bool, true, false, cond, not, ◌&&◌, ◌||◌, ltb, eqb, inl, inr, None, Some, [], ◌∷◌, pos, refl, sym, ap, ap₂, ◌∙◌, arith}
+use Rattle.std.proofs.Common.{◌≡◌, ◌↔◌, ℕ, zero, suc, ◌+◌, ◌-◌, ◌<◌, ◌≤◌, Bool, true, false, cond, not, ◌&&◌, ◌||◌, ltb, eqb, inl, inr, None, Some, [], ◌∷◌, pos, refl, sym, ap, ap₂, ◌∙◌, arith}
 use Rattle.std.proofs.lemmas.Bool.{agree_below, agree_below_at, and_parts, and_from, lt-ltb, le-ltb, eqb-true, cases_lt}
 use Rattle.surd_number.specs.declared.Sgn.TheVariants.{Zero, Pos}
 use Rattle.surd_number.specs.Number.{Number, IsSame, whole, product_of, sign_of}

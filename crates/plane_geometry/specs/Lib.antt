@@ -19,7 +19,8 @@ pub mod DirLaws
 pub mod Ends
 pub mod SegmentLaws
 pub mod CrossLaws
-pub mod CommonPoints
+pub mod CommonPointLaws
 pub mod MeetLaws
+pub mod CommonLaws
 pub mod LineLaws
 pub mod OrderLaws

@@ -15,7 +15,7 @@ ghost use Rattle.plane_geometry.specs.Common.{is_parallel, common_of, meeting_of
 
 use crate::sides::{Part, parts, scaled};
 use crate::{Line, Point, Segment};
-use surd_number::Wide;
+use surd_number::{OutOfRange, Wide};
 use thiserror::Error;
 
 /// Why two lines have no common point of two Surds.
@@ -27,6 +27,16 @@ pub enum MeetFault {
     /// A coordinate of the common point is not a Surd.
     #[error("the common point is out of range")]
     OutOfRange,
+}
+
+impl From<OutOfRange> for MeetFault {
+    ghost use Rattle.plane_geometry.specs.declared.meeting.MeetFault.TheVariants.{OutOfRange};
+
+    ghost from_gives = { λ _ fault. fault ≡ OutOfRange };
+
+    fn from(_: OutOfRange) -> MeetFault {
+        MeetFault::OutOfRange
+    }
 }
 
 /// The powers of `sqrt 2 - 1` in the cross products of the directions 0 to 7 with later ones.
@@ -78,13 +88,10 @@ fn coordinate(a: Part, l: &Line, b: Part, m: &Line) -> Wide
 fn narrowed(x: &Wide, y: &Wide) -> Result<Point, MeetFault>
     ensures { MatchResult result (λ p. IsSurdOf p.x (wide_number_of x.now) × IsSurdOf p.y (wide_number_of y.now)) (λ e. (e ≡ MeetFault.OutOfRange) × (¬ (IsSurd (wide_number_of x.now) × IsSurd (wide_number_of y.now)))) }
 {
-    match x.narrow() {
-        Ok(x) => match y.narrow() {
-            Ok(y) => Ok(Point { x, y }),
-            Err(_) => Err(MeetFault::OutOfRange),
-        },
-        Err(_) => Err(MeetFault::OutOfRange),
-    }
+    Ok(Point {
+        x: x.narrow()?,
+        y: y.narrow()?,
+    })
 }
 
 /// The common point of a line and one of a later direction.

@@ -1,8 +1,7 @@
 -- The Surd that has a number's value, as a function of the number, is what an exact result gives.
-use Rattle.std.specs.Prelude.{Result, Ok, Err, Option, Some, None}
+use Rattle.std.specs.Prelude.{Result, Ok, Err, Some, None}
 use Rattle.std.specs.Result.{result_ok}
-use Rattle.std.proofs.Common.{◌≡◌, ℕ, ◌≤◌, ◌^◌, ◌⊎◌, inl, inr, unsigned_abs, refl, ap, subst, arith}
-use Rattle.std.proofs.lemmas.Bool.{cases_lt}
+use Rattle.std.proofs.Common.{◌≡◌, ◌⊎◌, inl, inr, refl, ap, subst}
 use Rattle.surd_number.specs.declared.Surd.{Surd}
 use Rattle.surd_number.specs.declared.OutOfRange.{OutOfRange}
 use Rattle.surd_number.specs.Number.{Number, IsWithin}

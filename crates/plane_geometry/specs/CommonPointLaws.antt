@@ -4,7 +4,7 @@ use Rattle.std.proofs.lemmas.Bool.{false≢true, and_parts, or_cases, and_from, 
 use Rattle.surd_number.specs.declared.Sgn.{Sgn}
 use Rattle.surd_number.specs.declared.Sgn.TheVariants.{Neg, Zero, Pos}
 use Rattle.surd_number.specs.Number.{Number, IsSame, whole, sum_of, difference_of, product_of, negative_of, half_of, sign_of}
-use Rattle.surd_number.specs.RingTool.{◌⊕◌, ◌⊝◌, ◌⊗◌, ⊖◌, con, halved, v0, v1, v2, v3, v4, v5, v6, v7, v8}
+use Rattle.surd_number.specs.RingTool.{◌⊕◌, ◌⊝◌, ◌⊗◌, ⊖◌, con, halved, v0, v1, v2, v3, v4, v5}
 use Rattle.surd_number.specs.NumberLaws.{number_ring, number_ring_from}
 use Rattle.std.specs.Ordering.{is_lt}
 use Rattle.plane_geometry.specs.Position.{Position, vector_of, cross_of, dot_of, compare_positions, is_same_position}

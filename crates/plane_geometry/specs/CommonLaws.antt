@@ -1,14 +1,13 @@
 -- The common point of the lines of two stretches is on both of them, and no other point is.
-use Rattle.std.proofs.Common.{◌≡◌, ℕ, ◌<◌, ◌%◌, ◌+◌, inl, inr, Bool, true, false, cond, [], ◌∷◌, pos, refl, sym, ap, ap₂, subst, ◌∙◌, arith}
+use Rattle.std.proofs.Common.{◌≡◌, ℕ, ◌<◌, ◌%◌, ◌+◌, inl, inr, Bool, true, false, cond, refl, sym, ap, ap₂, subst, ◌∙◌, arith}
 use Rattle.std.specs.Prelude.{Option, None, Some, nat_eq, nat_lt}
 use Rattle.std.proofs.lemmas.Bool.{cases_lt, lt-ltb, ltb-true, eqb-false, false≢true}
 use Rattle.surd_number.specs.declared.Surd.{Surd}
 use Rattle.surd_number.specs.declared.Sgn.{Sgn}
 use Rattle.surd_number.specs.declared.Sgn.TheVariants.{Neg, Zero, Pos}
-use Rattle.surd_number.specs.Number.{IsSame, whole, difference_of, product_of, negative_of, sign_of, unit_of, unit_inverse_of}
-use Rattle.surd_number.specs.RingTool.{◌⊝◌, ◌⊗◌, con, v0, v1, v2, v3, v4, v5}
-use Rattle.surd_number.specs.NumberLaws.{number_ring, number_ring_from_two, same_from_difference, difference_from_same, IsSame-trans, IsSame-sym, unit_of-inverse}
-use Rattle.surd_number.specs.SignLaws.{opposite_sign, sign_of-zero, zero_sign_of, sign_of-same, sign_of-negative}
+use Rattle.surd_number.specs.Number.{IsSame, difference_of, negative_of, sign_of, unit_inverse_of}
+use Rattle.surd_number.specs.NumberLaws.{difference_from_same, IsSame-trans, IsSame-sym}
+use Rattle.surd_number.specs.SignLaws.{opposite_sign, zero_sign_of, sign_of-same, sign_of-negative}
 use Rattle.surd_number.specs.Value.{number_of}
 use Rattle.surd_number.specs.Exact.{surd_of}
 use Rattle.surd_number.specs.ExactLaws.{surd_of-is, surd_of-value}
@@ -16,7 +15,7 @@ use Rattle.plane_geometry.specs.declared.Point.{Point}
 use Rattle.plane_geometry.specs.Position.{Position, position_of, vector_of, opposite_of, cross_of}
 use Rattle.plane_geometry.specs.Direction.{direction_vector, side_of}
 use Rattle.plane_geometry.specs.CrossTable.{cross_tangents, cross_roots}
-use Rattle.plane_geometry.specs.CrossLaws.{direction_cross, cross_opposite}
+use Rattle.plane_geometry.specs.CrossLaws.{cross_opposite}
 use Rattle.plane_geometry.specs.DirectionLaws.{opposite_direction}
 use Rattle.plane_geometry.specs.SideLaws.{then_sign, order_of, side_same}
 use Rattle.plane_geometry.specs.StretchLaws.{side_to}
