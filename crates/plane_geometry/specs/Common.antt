@@ -19,6 +19,9 @@ use Rattle.plane_geometry.specs.Stretch.{Stretch, is_in_line}
 abbrev pub is_parallel : Stretch → Stretch → Bool
 is_parallel s u = nat_eq (s.dir % 8) (u.dir % 8)
 
+abbrev pub AreParallel : Segment → Segment → Type 0
+AreParallel s u = IsTrue (is_parallel (stretch_of s) (stretch_of u))
+
 -- p is on the lines of both
 abbrev pub IsOnBothLines : Position → Segment → Segment → Type 0
 IsOnBothLines p s u = IsTrue (is_in_line p (stretch_of s)) × IsTrue (is_in_line p (stretch_of u))

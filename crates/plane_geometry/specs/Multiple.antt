@@ -11,4 +11,5 @@ IsSameVector u v = IsSame u.x v.x × IsSame u.y v.y
 
 -- the difference of the points is a positive multiple of direction n
 abbrev pub IsPositiveMultiple : ℕ → Position → Position → Type 0
-IsPositiveMultiple n p q = (m : Number) × (sign_of m ≡ Pos) × IsSameVector (vector_of p q) (multiple_of m (direction_vector n))
+IsPositiveMultiple n p q =
+    (m : Number) × (sign_of m ≡ Pos) × IsSameVector (vector_of p q) (multiple_of m (direction_vector n))

@@ -23,4 +23,5 @@ is_before s u = is_lt (compare_segments s u)
 
 -- by the directions, then by the triples of the offsets
 abbrev pub compare_lines : Line → Line → Ordering
-compare_lines l m = ordering_then (nat_cmp (line_number l) (line_number m)) (compare_wides (line_offset l) (line_offset m))
+compare_lines l m =
+    ordering_then (nat_cmp (line_number l) (line_number m)) (compare_wides (line_offset l) (line_offset m))

@@ -1,7 +1,7 @@
 -- Points of the plane: any pair of exact numbers.
-use Rattle.std.specs.Prelude.{Bool}
+use Rattle.std.specs.Prelude.{Bool, IsTrue}
 use Rattle.std.specs.declared.cmp.Ordering.{Ordering}
-use Rattle.std.specs.Ordering.{ordering_then, is_eq}
+use Rattle.std.specs.Ordering.{ordering_then, is_eq, is_lt}
 use Rattle.surd_number.specs.Number.{Number, sum_of, difference_of, product_of, negative_of, compare_of}
 use Rattle.surd_number.specs.Value.{number_of}
 use Rattle.plane_geometry.specs.declared.Point.{Point}
@@ -16,6 +16,10 @@ position_of p = record { x = number_of p.x; y = number_of p.y }
 -- by x, then by y
 abbrev pub compare_positions : Position → Position → Ordering
 compare_positions p q = ordering_then (compare_of p.x q.x) (compare_of p.y q.y)
+
+-- p comes before q in the order of points
+abbrev pub ComesBefore : Point → Point → Type 0
+ComesBefore p q = IsTrue (is_lt (compare_positions (position_of p) (position_of q)))
 
 -- both stand for one point of the plane
 abbrev pub is_same_position : Position → Position → Bool

@@ -27,8 +27,10 @@ segment_by p q n false h = None
 
 -- the segment with the lesser end p and the greater end q
 abbrev pub segment_from : Point → Point → Option Segment
-segment_from p q = option_and_then (λ n. segment_by p q n (is_segment p q n) refl) (direction_of (position_of p) (position_of q))
+segment_from p q =
+    option_and_then (λ n. segment_by p q n (is_segment p q n) refl) (direction_of (position_of p) (position_of q))
 
 -- the segment between p and q, if they differ and lie in one of the 16 directions from each other
 abbrev pub segment_of : Point → Point → Option Segment
-segment_of p q = if is_lt (compare_positions (position_of p) (position_of q)) then segment_from p q else segment_from q p
+segment_of p q =
+    if is_lt (compare_positions (position_of p) (position_of q)) then segment_from p q else segment_from q p

@@ -54,11 +54,13 @@ has_same_ends s u = is_end s.from u && is_end s.to u
 
 -- each common point is an end of both
 abbrev pub meets_at_ends : Stretch → Stretch → Bool
-meets_at_ends s u = not (is_crossing s u) && (not (has_same_ends s u) && (ends_at_ends s u && ends_at_ends u s))
+meets_at_ends s u =
+    not (is_crossing s u) && (not (has_same_ends s u) && (ends_at_ends s u && ends_at_ends u s))
 
 -- a part of positive length is on both: they are on one line, and each begins before the other ends
 abbrev pub is_overlapping : Stretch → Stretch → Bool
-is_overlapping s u = (is_in_line u.from s && is_in_line u.to s) && (is_lt (compare_positions s.from u.to) && is_lt (compare_positions u.from s.to))
+is_overlapping s u =
+    (is_in_line u.from s && is_in_line u.to s) && (is_lt (compare_positions s.from u.to) && is_lt (compare_positions u.from s.to))
 
 -- ---- the same by points: any pairs of numbers
 

@@ -1,11 +1,11 @@
 //! The direction from one point to another.
 
-ghost use Rattle.std.specs.Prelude.{◌≡◌, ℕ, ◌<◌, ◌↔◌, IsTrue, IsNone, MatchOption};
-ghost use Rattle.std.specs.Bool.{IsFalse};
+ghost use Rattle.std.specs.Prelude.{◌≡◌, ◌<◌, ◌↔◌, IsNone, MatchOption};
 ghost use Rattle.std.specs.Option.{option_map};
 ghost use Rattle.plane_geometry.specs.declared.Dir.{Dir};
 ghost use Rattle.plane_geometry.specs.Position.{position_of};
-ghost use Rattle.plane_geometry.specs.Direction.{is_along, direction_of};
+ghost use Rattle.plane_geometry.specs.Direction.{direction_of};
+ghost use Rattle.plane_geometry.specs.Ends.{GoesAlong, HasNoDirection};
 ghost use Rattle.plane_geometry.specs.DirView.{dir_number};
 
 use crate::sides::goes_along;
@@ -13,7 +13,8 @@ use crate::{Dir, Point};
 
 /// The first of the 16 directions in which it goes from `p` to `q`.
 fn first_direction(p: &Point, q: &Point) -> Option<Dir>
-    ensures found { MatchOption result ((n : ℕ) → n < 16 → IsFalse (is_along n (position_of p.now) (position_of q.now))) (λ d. IsTrue (is_along (dir_number d) (position_of p.now) (position_of q.now))) }
+    ensures found { MatchOption result (HasNoDirection (position_of p.now) (position_of q.now))
+        (λ d. GoesAlong (dir_number d) p.now q.now) }
     ensures value { option_map dir_number result ≡ direction_of (position_of p.now) (position_of q.now) }
 {
     for number in 0..16 {
@@ -27,8 +28,8 @@ fn first_direction(p: &Point, q: &Point) -> Option<Dir>
 
 /// The direction from `p` to `q`, where their difference is a positive multiple of one of the 16 directions.
 pub fn direction(p: &Point, q: &Point) -> Option<Dir>
-    ensures exact { (d : Dir) → (result ≡ Some d) ↔ IsTrue (is_along (dir_number d) (position_of p.now) (position_of q.now)) }
-    ensures none { IsNone result ↔ ((n : ℕ) → n < 16 → IsFalse (is_along n (position_of p.now) (position_of q.now))) }
+    ensures exact { (d : Dir) → (result ≡ Some d) ↔ GoesAlong (dir_number d) p.now q.now }
+    ensures none { IsNone result ↔ HasNoDirection (position_of p.now) (position_of q.now) }
     ensures value { option_map dir_number result ≡ direction_of (position_of p.now) (position_of q.now) }
 {
     first_direction(p, q)

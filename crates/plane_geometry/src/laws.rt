@@ -12,6 +12,7 @@ ghost use Rattle.plane_geometry.specs.CrossTable.{cross_tangents, cross_roots};
 ghost use Rattle.plane_geometry.specs.LineView.{HaveSamePoints};
 ghost use Rattle.plane_geometry.specs.Multiple.{IsPositiveMultiple};
 ghost use Rattle.plane_geometry.specs.Order.{compare_segments, compare_lines};
+ghost use Rattle.plane_geometry.specs.Ends.{HasEnds};
 ghost use Rattle.plane_geometry.specs.SegmentView.{lesser_end, greater_end};
 
 /// From one point to another it goes in a direction exactly where their difference is a positive multiple of it.
@@ -26,12 +27,14 @@ pub fn directions_have_opposites()
 
 /// Of the 16 directions, it goes in one at most from one point to another.
 pub fn directions_are_unique()
-    ensures { (m n : ℕ) (p q : Position) → m < 16 → n < 16 → IsTrue (is_along m p q) → IsTrue (is_along n p q) → m ≡ n }
+    ensures { (m n : ℕ) (p q : Position) → m < 16 → n < 16 →
+        IsTrue (is_along m p q) → IsTrue (is_along n p q) → m ≡ n }
 {}
 
 /// The cross product of a direction below 8 with a later one is a power of `sqrt 2 - 1` times a power of `sqrt 2`.
 pub fn cross_products_are_units()
-    ensures { (m n : ℕ) → m < n → n < 8 → IsSame (cross_of (direction_vector m) (direction_vector n)) (unit_of (cross_tangents m n) (cross_roots m n)) }
+    ensures { (m n : ℕ) → m < n → n < 8 →
+        IsSame (cross_of (direction_vector m) (direction_vector n)) (unit_of (cross_tangents m n) (cross_roots m n)) }
 {}
 
 /// Lines are equal, and their order ties them, exactly where they have the same points of the plane.
@@ -47,6 +50,6 @@ pub fn points_are_their_places()
 
 /// Segments are equal, and their order ties them, exactly where they have the same ends.
 pub fn segments_are_their_ends()
-    ensures equal { (s u : Segment) → (s ≡ u) ↔ ((lesser_end s ≡ lesser_end u) × (greater_end s ≡ greater_end u)) }
-    ensures tied { (s u : Segment) → (compare_segments s u ≡ Equal) ↔ ((lesser_end s ≡ lesser_end u) × (greater_end s ≡ greater_end u)) }
+    ensures equal { (s u : Segment) → (s ≡ u) ↔ HasEnds s (lesser_end u) (greater_end u) }
+    ensures tied { (s u : Segment) → (compare_segments s u ≡ Equal) ↔ HasEnds s (lesser_end u) (greater_end u) }
 {}

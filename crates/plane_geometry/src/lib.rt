@@ -9,8 +9,7 @@ mod meeting;
 mod segments;
 mod sides;
 
-ghost use Rattle.std.specs.Prelude.{◌≡◌, ◌≢◌, ◌≤◌, ◌<◌, ◌↔◌, IsNone, IfSome, IfOk, MatchResult, IsTrue};
-ghost use Rattle.std.specs.Ordering.{is_lt};
+ghost use Rattle.std.specs.Prelude.{◌≡◌, ◌≤◌, ◌<◌, ◌↔◌, IsNone, IfSome, IfOk, MatchResult, IsTrue};
 ghost use Rattle.std.specs.Result.{result_ok};
 ghost use Rattle.plane_geometry.specs.Position.{position_of};
 ghost use Rattle.plane_geometry.specs.Stored.{IsStretch};
@@ -96,18 +95,17 @@ impl Dir {
 
 impl Segment {
     ghost use Rattle.plane_geometry.specs.DirView.{dir_number};
-    ghost use Rattle.plane_geometry.specs.Position.{compare_positions};
-    ghost use Rattle.plane_geometry.specs.Direction.{is_along};
-    ghost use Rattle.plane_geometry.specs.Ends.{lesser_of, greater_of, HasNoDirection};
+    ghost use Rattle.plane_geometry.specs.Position.{ComesBefore};
+    ghost use Rattle.plane_geometry.specs.Ends.{lesser_of, greater_of, HasEnds, HasNoDirection, HaveBadDirection, GoesAlong};
     ghost use Rattle.plane_geometry.specs.SegmentView.{lesser_end, greater_end, direction_number, stretch_of};
     ghost use Rattle.plane_geometry.specs.Stretch.{is_on};
     ghost use Rattle.plane_geometry.specs.SegmentOf.{segment_from, segment_of};
 
     /// The segment between two points, the lesser one first.
     pub fn new(p: &Point, q: &Point) -> Result<Segment, SegmentFault>
-        ensures ends { IfOk result (λ s. (lesser_end s ≡ lesser_of p.now q.now) × (greater_end s ≡ greater_of p.now q.now)) }
+        ensures ends { IfOk result (λ s. HasEnds s (lesser_of p.now q.now) (greater_of p.now q.now)) }
         ensures zero_length { (result ≡ Err SegmentFault.ZeroLength) ↔ (p.now ≡ q.now) }
-        ensures bad_direction { (result ≡ Err SegmentFault.BadDirection) ↔ ((p.now ≢ q.now) × HasNoDirection (position_of p.now) (position_of q.now)) }
+        ensures bad_direction { (result ≡ Err SegmentFault.BadDirection) ↔ HaveBadDirection p.now q.now }
         ensures value { result_ok result ≡ segment_of p.now q.now }
     {
         if is_before(p, q) {
@@ -121,8 +119,9 @@ impl Segment {
 
     /// The segment from a point to a later one.
     fn in_order(from: &Point, to: &Point) -> Result<Segment, SegmentFault>
-        requires { IsTrue (is_lt (compare_positions (position_of from.now) (position_of to.now))) }
-        ensures ends { MatchResult result (λ s. (lesser_end s ≡ from.now) × (greater_end s ≡ to.now)) (λ e. (e ≡ SegmentFault.BadDirection) × HasNoDirection (position_of from.now) (position_of to.now)) }
+        requires { ComesBefore from.now to.now }
+        ensures ends { MatchResult result (λ s. HasEnds s from.now to.now)
+            (λ e. (e ≡ SegmentFault.BadDirection) × HasNoDirection (position_of from.now) (position_of to.now)) }
         ensures value { result_ok result ≡ segment_from from.now to.now }
     {
         match direction(from, to) {
@@ -138,7 +137,7 @@ impl Segment {
     /// The lesser end.
     pub fn from(&self) -> &Point
         ensures value { result.now ≡ lesser_end self.now }
-        ensures first { IsTrue (is_lt (compare_positions (position_of result.now) (position_of (greater_end self.now)))) }
+        ensures first { ComesBefore result.now (greater_end self.now) }
     {
         &self.from
     }
@@ -154,8 +153,8 @@ impl Segment {
     pub fn part(&self, from: &Point, to: &Point) -> Segment
         requires from_on { IsTrue (is_on (position_of from.now) (stretch_of self.now)) }
         requires to_on { IsTrue (is_on (position_of to.now) (stretch_of self.now)) }
-        requires order { IsTrue (is_lt (compare_positions (position_of from.now) (position_of to.now))) }
-        ensures ends { (lesser_end result ≡ from.now) × (greater_end result ≡ to.now) }
+        requires order { ComesBefore from.now to.now }
+        ensures ends { HasEnds result from.now to.now }
         ensures direction { direction_number result ≡ direction_number self.now }
         ensures value { segment_of from.now to.now ≡ Some result }
     {
@@ -169,7 +168,7 @@ impl Segment {
     /// The direction from the lesser end to the greater one.
     pub fn dir(&self) -> Dir
         ensures value { dir_number result ≡ direction_number self.now }
-        ensures along { IsTrue (is_along (dir_number result) (stretch_of self.now).from (stretch_of self.now).to) }
+        ensures along { GoesAlong (dir_number result) (lesser_end self.now) (greater_end self.now) }
     {
         self.dir
     }
@@ -214,19 +213,20 @@ impl PartialOrd for Segment {
 
 impl Line {
     ghost use Rattle.std.specs.Prelude.{◌%◌, ◌*◌, ◌^◌};
-    ghost use Rattle.surd_number.specs.Exact.{IsWideOf};
     ghost use Rattle.surd_number.specs.Number.{FitsOver};
     ghost use Rattle.surd_number.specs.Value.{wide_number_of};
-    ghost use Rattle.plane_geometry.specs.Position.{Position, cross_of};
-    ghost use Rattle.plane_geometry.specs.Direction.{direction_vector, side_of};
+    ghost use Rattle.plane_geometry.specs.Position.{Position};
+    ghost use Rattle.plane_geometry.specs.LineStored.{IsOffsetAt};
+    ghost use Rattle.plane_geometry.specs.Direction.{side_of};
     ghost use Rattle.plane_geometry.specs.DirView.{dir_number};
     ghost use Rattle.plane_geometry.specs.LineView.{line_number, line_offset, side_of_line};
 
     /// The line through a point in a direction, taken modulo 8.
     pub fn through(p: &Point, d: Dir) -> Line
         ensures number { line_number result ≡ dir_number d % 8 }
-        ensures offset { IsWideOf (line_offset result) (cross_of (direction_vector (line_number result)) (position_of p.now)) }
-        ensures sides { (q : Position) → side_of_line result q ≡ side_of (position_of p.now) (line_number result) q }
+        ensures offset { IsOffsetAt (line_number result) (line_offset result) p.now }
+        ensures sides { (q : Position) →
+            side_of_line result q ≡ side_of (position_of p.now) (line_number result) q }
     {
         let dir = Dir {
             number: d.number % 8,

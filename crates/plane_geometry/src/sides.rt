@@ -99,7 +99,8 @@ pub(crate) fn scaled(part: Part, w: &Wide) -> Wide
 fn cross(dir: Dir, x: &Wide, y: &Wide) -> Wide
     requires x_fits { FitsOver (2 ^ 66) 16 (wide_number_of x.now) }
     requires y_fits { FitsOver (2 ^ 66) 16 (wide_number_of y.now) }
-    ensures { IsWideOf result (cross_of (direction_vector (dir_number dir)) (record { x = wide_number_of x.now; y = wide_number_of y.now })) }
+    ensures { IsWideOf result
+        (cross_of (direction_vector (dir_number dir)) (record { x = wide_number_of x.now; y = wide_number_of y.now })) }
 {
     let (u, v) = parts(dir);
     scaled(u, y).minus(&scaled(v, x))
@@ -109,7 +110,8 @@ fn cross(dir: Dir, x: &Wide, y: &Wide) -> Wide
 fn dot(dir: Dir, x: &Wide, y: &Wide) -> Wide
     requires x_fits { FitsOver (2 ^ 66) 16 (wide_number_of x.now) }
     requires y_fits { FitsOver (2 ^ 66) 16 (wide_number_of y.now) }
-    ensures { IsWideOf result (dot_of (direction_vector (dir_number dir)) (record { x = wide_number_of x.now; y = wide_number_of y.now })) }
+    ensures { IsWideOf result
+        (dot_of (direction_vector (dir_number dir)) (record { x = wide_number_of x.now; y = wide_number_of y.now })) }
 {
     let (u, v) = parts(dir);
     scaled(u, x).plus(&scaled(v, y))
@@ -131,7 +133,8 @@ pub fn side_from(q: &Point, dir: Dir, p: &Point) -> Sgn
 
 /// The sign of the dot product of a direction with the vector from `p` to `q`.
 fn advance(dir: Dir, p: &Point, q: &Point) -> Sgn
-    ensures { result ≡ sign_of (dot_of (direction_vector (dir_number dir)) (vector_of (position_of p.now) (position_of q.now))) }
+    ensures { result ≡
+        sign_of (dot_of (direction_vector (dir_number dir)) (vector_of (position_of p.now) (position_of q.now))) }
 {
     dot(dir, &difference(&q.x, &p.x), &difference(&q.y, &p.y)).sgn()
 }

@@ -22,10 +22,18 @@ abbrev pub whole : ℤ → Number
 whole n = record { a = n; b = pos 0; k = 0 }
 
 abbrev pub sum_of : Number → Number → Number
-sum_of x y = record { a = x.a *ℤ power y.k +ℤ y.a *ℤ power x.k; b = x.b *ℤ power y.k +ℤ y.b *ℤ power x.k; k = x.k + y.k }
+sum_of x y = record {
+  a = x.a *ℤ power y.k +ℤ y.a *ℤ power x.k;
+  b = x.b *ℤ power y.k +ℤ y.b *ℤ power x.k;
+  k = x.k + y.k;
+}
 
 abbrev pub product_of : Number → Number → Number
-product_of x y = record { a = x.a *ℤ y.a +ℤ pos 2 *ℤ (x.b *ℤ y.b); b = x.a *ℤ y.b +ℤ x.b *ℤ y.a; k = x.k + y.k }
+product_of x y = record {
+  a = x.a *ℤ y.a +ℤ pos 2 *ℤ (x.b *ℤ y.b);
+  b = x.a *ℤ y.b +ℤ x.b *ℤ y.a;
+  k = x.k + y.k;
+}
 
 abbrev pub negative_of : Number → Number
 negative_of x = record { a = neg_ℤ x.a; b = neg_ℤ x.b; k = x.k }
@@ -36,8 +44,8 @@ difference_of x y = sum_of x (negative_of y)
 abbrev pub half_of : Number → Number
 half_of x = record { a = x.a; b = x.b; k = x.k + 1 }
 
--- The sign of a + b * sqrt 2: the common sign of a and b, or that of the part with the greater square, where that of
--- sqrt 2 counts twice. No whole a and b but 0 have a * a = 2 * b * b.
+-- The sign of a + b * sqrt 2: the common sign of a and b, or that of the part with the greater square, where that
+-- of sqrt 2 counts twice. No whole a and b but 0 have a * a = 2 * b * b.
 abbrev pub root_sign : ℤ → ℤ → Sgn
 root_sign (pos zero) (pos zero) = Zero
 root_sign (pos a) (pos b) = Pos
@@ -103,10 +111,12 @@ power_of x (suc n) = product_of x (power_of x n)
 abbrev pub unit_of : ℕ → ℕ → Number
 unit_of i j = product_of (power_of tangent i) (power_of root_two j)
 
--- the inverses of tangent, sqrt 2 + 1, and of sqrt 2, sqrt 2 / 2
-abbrev pub unit_inverse_of : ℕ → ℕ → Number
-unit_inverse_of i j = product_of (power_of (record { a = pos 1; b = pos 1; k = 0 }) i) (power_of (record { a = pos 0; b = pos 1; k = 1 }) j)
+-- the inverse of tangent, and sqrt 2 / 2, the inverse of sqrt 2
+abbrev pub tangent_inverse : Number
+tangent_inverse = record { a = pos 1; b = pos 1; k = 0 }
 
--- sqrt 2 / 2
 abbrev pub half_root : Number
 half_root = record { a = pos 0; b = pos 1; k = 1 }
+
+abbrev pub unit_inverse_of : ℕ → ℕ → Number
+unit_inverse_of i j = product_of (power_of tangent_inverse i) (power_of half_root j)

@@ -18,7 +18,8 @@ pub fn surds_are_their_values()
 /// Wides are equal, and their order ties them, exactly where they have one value.
 pub fn wides_are_their_values()
     ensures equal { (v w : Wide) → (v ≡ w) ↔ IsSame (wide_number_of v) (wide_number_of w) }
-    ensures tied { (v w : Wide) → (compare_wides v w ≡ Equal) ↔ IsSame (wide_number_of v) (wide_number_of w) }
+    ensures tied { (v w : Wide) →
+        (compare_wides v w ≡ Equal) ↔ IsSame (wide_number_of v) (wide_number_of w) }
 {}
 
 /// The sign is of the value, and Zero at zero alone.

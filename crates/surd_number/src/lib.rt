@@ -128,7 +128,8 @@ impl Surd {
         requires few { i ≤ 1 }
         requires few_roots { j ≤ 3 }
         ensures exact { IsExactly result (product_of (number_of self.now) (unit_inverse_of i j)) }
-        ensures quotient { IfOk result (λ q. IsSame (product_of (number_of q) (unit_of i j)) (number_of self.now)) }
+        ensures quotient { IfOk result
+            (λ q. IsSame (product_of (number_of q) (unit_of i j)) (number_of self.now)) }
     {
         Surd::exactly(&self.triple().times(&Triple::unit_inverse(i, j)))
     }

@@ -22,7 +22,8 @@ impl Triple {
     pub(crate) fn plus(&self, other: &Triple) -> Triple
         requires few_bits { IsWithin 80 20 (triple_number_of self.now) }
         requires few_bits_other { IsWithin 80 20 (triple_number_of other.now) }
-        ensures { triple_number_of result ≡ sum_of (triple_number_of self.now) (triple_number_of other.now) }
+        ensures { triple_number_of result ≡
+            sum_of (triple_number_of self.now) (triple_number_of other.now) }
     {
         Triple {
             a: cross_sum(self.a, self.k, other.a, other.k),
@@ -60,7 +61,8 @@ impl Triple {
     pub(crate) fn minus(&self, other: &Triple) -> Triple
         requires few_bits { IsWithin 80 20 (triple_number_of self.now) }
         requires few_bits_other { IsWithin 80 20 (triple_number_of other.now) }
-        ensures { triple_number_of result ≡ difference_of (triple_number_of self.now) (triple_number_of other.now) }
+        ensures { triple_number_of result ≡
+            difference_of (triple_number_of self.now) (triple_number_of other.now) }
     {
         self.plus(&other.negated())
     }
@@ -69,7 +71,8 @@ impl Triple {
     pub(crate) fn times(&self, other: &Triple) -> Triple
         requires few_bits { IsWithin 80 20 (triple_number_of self.now) }
         requires few_bits_other { IsWithin 36 16 (triple_number_of other.now) }
-        ensures { triple_number_of result ≡ product_of (triple_number_of self.now) (triple_number_of other.now) }
+        ensures { triple_number_of result ≡
+            product_of (triple_number_of self.now) (triple_number_of other.now) }
     {
         Triple {
             a: sum(product(self.a, other.a), twice(product(self.b, other.b))),
