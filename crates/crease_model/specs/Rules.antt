@@ -54,9 +54,13 @@ segments_of pieces = map (λ p. p.segment) pieces
 abbrev pub size_of : PatternView → ℕ
 size_of p = length p.pieces + length p.aux
 
+-- a pattern has at most so many pieces and auxiliary lines
+abbrev pub most_pieces : ℕ
+most_pieces = 2000
+
 pub record IsPattern (p : PatternView) : Type 0 where
   pub creases : AllByRecursion (λ q. IsTrue (is_crease p.corners q)) p.pieces
   pub meetings : AllMeetAtEnds p.pieces
   pub lines : AllByRecursion (λ s. IsTrue (is_on_sheet p.corners (stretch_of s))) p.aux
-  pub size : size_of p ≤ 2000
+  pub size : size_of p ≤ most_pieces
   pub order : IsTrue (is_ascending (segments_of p.pieces)) × IsTrue (is_ascending p.aux)

@@ -38,7 +38,8 @@ use Rattle.crease_store.specs.Added.{IsCreaseAdded, IsLineAdded}
 use Rattle.crease_store.specs.Adding.{with_crease, with_line, if_it_fits, crease_cut, crease_added, segment_added, added_between, add_of}
 use Rattle.crease_store.specs.Loading.{after_line, load_from, load_of}
 use Rattle.crease_store.specs.Placed.{segment_at, line_at}
-use Rattle.crease_store.specs.OwnLines.{PlainLine, plain_line, side_line, piece_line, auxiliary_line, own_lines, OwnLinesAreLoaded}
+use Rattle.crease_model.specs.OwnLines.{PlainLine, side_line, piece_line, auxiliary_line, own_lines}
+use Rattle.crease_store.specs.OwnLines.{plain_line, OwnLinesAreLoaded}
 use Rattle.crease_store.proofs.AddLaws.{lines_ascend, crease_is_added, line_is_added, crease_is_one, line_is_one}
 use Rattle.crease_store.proofs.Covered.{end_lies}
 use Rattle.crease_store.proofs.Members.{member_left, member_right, member_cases}
