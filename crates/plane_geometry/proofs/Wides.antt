@@ -126,8 +126,8 @@ dot_by r m n d x y p q e f g h k =
     IsSame-trans r (sum_of m n) (sum_of (product_of d.x x) (product_of d.y y)) k to_d
 
 -- small enough to tell the sign of
-pub sgn_fits : (most : ℕ) (x : Number) → IsCanonical x → most ≤ 2 ^ 60 → FitsOver most 16 x → IsWithin 60 20 x
-sgn_fits most x least few f = within_from_fits most 16 60 20 x least few (lit≤ tt) f
+pub sgn_fits : (most : ℕ) (x : Number) → IsCanonical x → most ≤ 2 ^ 62 → FitsOver most 16 x → IsWithin 62 20 x
+sgn_fits most x least few f = within_from_fits most 16 62 20 x least few (lit≤ tt) f
 
 -- products with a difference of points
 pub cross_from_differences : (r : Number) (d p q : Position) (x y : Number) → IsSame x (difference_of q.x p.x) → IsSame y (difference_of q.y p.y) → IsSame r (cross_of d (record { x = x; y = y })) → IsSame r (cross_of d (vector_of p q))

@@ -1,5 +1,5 @@
 -- The common point of the lines of two stretches.
-use Rattle.std.specs.Prelude.{ℕ, ◌%◌, Bool, nat_eq, nat_lt, Option, None, Some, if◌then◌else◌}
+use Rattle.std.specs.Prelude.{ℕ, ◌%◌, Bool, IsTrue, nat_eq, nat_lt, Option, None, Some, if◌then◌else◌}
 use Rattle.surd_number.specs.declared.Surd.{Surd}
 use Rattle.surd_number.specs.Number.{unit_inverse_of}
 use Rattle.surd_number.specs.Answer.{surd_of}
@@ -8,11 +8,16 @@ use Rattle.plane_geometry.specs.Position.{Position, cross_of}
 use Rattle.plane_geometry.specs.Direction.{direction_vector}
 use Rattle.plane_geometry.specs.CrossTable.{cross_tangents, cross_roots}
 use Rattle.plane_geometry.specs.MeetLaws.{meeting_point}
-use Rattle.plane_geometry.specs.Stretch.{Stretch}
+use Rattle.plane_geometry.specs.LineView.{IsPoint}
+use Rattle.plane_geometry.specs.Stretch.{Stretch, is_in_line}
 
 -- in one direction, or in opposite ones
 abbrev pub is_parallel : Stretch → Stretch → Bool
 is_parallel s u = nat_eq (s.dir % 8) (u.dir % 8)
+
+-- no point of two Surds is on the lines of both
+abbrev pub HaveNoPointInLine : Stretch → Stretch → Type 0
+HaveNoPointInLine s u = (p : Position) → IsTrue (is_in_line p s) → IsTrue (is_in_line p u) → ¬ IsPoint p
 
 -- where the line through p in direction m meets the line through q in a later direction n, both 0 to 7
 abbrev pub lines_meet_at : Position → ℕ → Position → ℕ → Position

@@ -8,7 +8,7 @@ use Rattle.surd_number.specs.RingTool.{◌⊕◌, ◌⊝◌, ◌⊗◌, ⊖◌, 
 use Rattle.surd_number.specs.NumberLaws.{number_ring, number_ring_from}
 use Rattle.std.specs.Ordering.{is_lt}
 use Rattle.plane_geometry.specs.Position.{Position, vector_of, cross_of, dot_of, compare_positions, is_same_position}
-use Rattle.plane_geometry.specs.Direction.{direction_vector, side_of, is_positive, is_negative, is_zero}
+use Rattle.plane_geometry.specs.Direction.{direction_vector, side_of, is_positive, is_negative, is_zero, is_along}
 use Rattle.plane_geometry.specs.Stored.{IsStretch}
 use Rattle.plane_geometry.specs.Stretch.{Stretch, is_apart, is_between, is_end, is_on, is_in_line, is_parted, is_crossing, is_touching, ends_at_ends, has_same_ends, meets_at_ends, is_overlapping, ShareAPoint, MeetAtEnds, ShareTwoPoints}
 use Rattle.surd_number.specs.SignLaws.{opposite_sign, times_sign, sign_of-same, sign_of-negative}
@@ -33,6 +33,12 @@ dot_is_order s p q h e =
     sym (along_lex (direction_vector s.dir) (vector_of p q) (square_sign s.dir) e
     ∙ ap (times_sign (sign_of (dot_of (direction_vector s.dir) (vector_of p q)))) (forward s h)
     ∙ product_by_pos (sign_of (dot_of (direction_vector s.dir) (vector_of p q))))
+
+-- from one point of its line to a later one it goes in the direction of a stretch
+pub along_line : (s : Stretch) (p q : Position) → IsStretch s → side_of s.from s.dir p ≡ Zero → side_of s.from s.dir q ≡ Zero → order_of p q ≡ Pos → is_along s.dir p q ≡ true
+along_line s p q h e f up =
+    let side = line_through s p q e f in
+    and_from _ _ (ap is_zero side) (ap is_positive (dot_is_order s p q h side ∙ up))
 
 -- along a stretch, one goes to the side of another direction to which it turns from that
 pub side_on_line : (s : Stretch) (p q : Position) (m : ℕ) → IsStretch s → side_of s.from s.dir p ≡ Zero → side_of s.from s.dir q ≡ Zero → side_of p m q ≡ times_sign (order_of p q) (turn_of m s.dir)

@@ -7,6 +7,7 @@ pub mod Stored
 pub mod SegmentView
 pub mod LineStored
 pub mod LineView
+pub mod Order
 pub mod SegmentOf
 pub mod Multiple
 pub mod CrossTable
@@ -20,5 +21,6 @@ pub mod CrossLaws
 pub mod CommonPoints
 pub mod MeetLaws
 pub mod LineLaws
+pub mod OrderLaws
 pub mod Common
 pub mod CommonLaws

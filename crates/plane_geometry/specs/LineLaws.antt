@@ -21,7 +21,7 @@ use Rattle.plane_geometry.specs.MeetLaws.{on_line_offset, on_line_from_offset}
 
 -- ---- parts
 
-line_from_parts : (l m : Line) → line_number l ≡ line_number m → line_offset l ≡ line_offset m → l ≡ m
+pub line_from_parts : (l m : Line) → line_number l ≡ line_number m → line_offset l ≡ line_offset m → l ≡ m
 line_from_parts l m e f =
     λ i. record {
       direction = e i;

@@ -1,6 +1,7 @@
 //! The common point of two lines.
 
 ghost use Rattle.std.specs.Prelude.{◌≡◌, ◌≢◌, ◌≤◌, ◌<◌, ◌^◌, ◌↔◌, pos, IfOk, IsTrue, MatchResult};
+ghost use Rattle.std.specs.Bool.{IsFalse};
 ghost use Rattle.std.specs.Result.{result_ok};
 ghost use Rattle.surd_number.specs.Number.{IsSame, product_of, difference_of, power_of, half_root, unit_inverse_of};
 ghost use Rattle.surd_number.specs.Stored.{IsSurd};
@@ -13,7 +14,8 @@ ghost use Rattle.plane_geometry.specs.LineView.{line_number, IsOnLine, HasNoComm
 ghost use Rattle.plane_geometry.specs.MeetLaws.{meeting_of};
 ghost use Rattle.plane_geometry.specs.Part.{part_number};
 ghost use Rattle.plane_geometry.specs.SegmentView.{stretch_of};
-ghost use Rattle.plane_geometry.specs.Common.{is_parallel, common_of};
+ghost use Rattle.plane_geometry.specs.Stretch.{is_in_line};
+ghost use Rattle.plane_geometry.specs.Common.{is_parallel, common_of, HaveNoPointInLine};
 
 use crate::sides::{Part, parts, scaled};
 use crate::{Line, Point, Segment};
@@ -143,6 +145,8 @@ fn meet_later(l: &Line, m: &Line) -> Result<Point, MeetFault>
 /// The common point of the lines of two segments.
 pub fn common_point(s: &Segment, u: &Segment) -> Result<Point, MeetFault>
     ensures parallel { (result ≡ Err MeetFault.Parallel) ↔ IsTrue (is_parallel (stretch_of s.now) (stretch_of u.now)) }
+    ensures point { IfOk result (λ p. IsTrue (is_in_line (position_of p) (stretch_of s.now)) × IsTrue (is_in_line (position_of p) (stretch_of u.now))) }
+    ensures out_of_range { (result ≡ Err MeetFault.OutOfRange) ↔ (IsFalse (is_parallel (stretch_of s.now) (stretch_of u.now)) × HaveNoPointInLine (stretch_of s.now) (stretch_of u.now)) }
     ensures value { result_ok result ≡ common_of (stretch_of s.now) (stretch_of u.now) }
 {
     meet(

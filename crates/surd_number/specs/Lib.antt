@@ -8,6 +8,7 @@ pub mod Value
 pub mod Exact
 pub mod Canonical
 pub mod Fits
+pub mod Order
 pub mod SurdLaws
 pub mod Whole
 pub mod Answer

@@ -35,7 +35,7 @@ pub struct Surd {
 }
 
 /// The same kind of number with `|a|, |b| <= 2^80` and `k <= 20`. Wides are ordered by their triples, and not by value.
-#[derive(Clone, Copy, Debug, PartialEq, Eq, PartialOrd, Ord, Hash)]
+#[derive(Clone, Copy, Debug, PartialEq, Eq, Hash)]
 pub struct Wide {
     a: i128,
     b: i128,
@@ -172,11 +172,12 @@ impl Surd {
 
 impl Ord for Surd {
     ghost use Rattle.std.specs.Prelude.{refl};
-    ghost use Rattle.surd_number.specs.SurdLaws.{surd_cmp, surd_cmp_total, surd_eq_is};
+    ghost use Rattle.surd_number.specs.Order.{compare_surds};
+    ghost use Rattle.surd_number.specs.SurdLaws.{compare_surds_total, surd_eq_is};
 
-    ghost cmp = { surd_cmp };
+    ghost cmp = { compare_surds };
 
-    ghost total = { surd_cmp_total };
+    ghost total = { compare_surds_total };
 
     ghost matches_partial_cmp = { λ _ _. refl };
 
@@ -195,11 +196,12 @@ impl PartialOrd for Surd {
     ghost use Rattle.std.specs.Ordering.{as_partial_cmp};
     ghost use Rattle.std.specs.Prelude.{refl};
     ghost use Rattle.std.specs.Cmp.{partial_order_from_agreeing_total};
-    ghost use Rattle.surd_number.specs.SurdLaws.{surd_cmp, surd_cmp_total, surd_eq_is};
+    ghost use Rattle.surd_number.specs.Order.{compare_surds};
+    ghost use Rattle.surd_number.specs.SurdLaws.{compare_surds_total, surd_eq_is};
 
-    ghost partial_cmp = { as_partial_cmp surd_cmp };
+    ghost partial_cmp = { as_partial_cmp compare_surds };
 
-    ghost laws = { partial_order_from_agreeing_total surd_cmp surd_cmp_total (λ _ _. refl) surd_eq_is };
+    ghost laws = { partial_order_from_agreeing_total compare_surds compare_surds_total (λ _ _. refl) surd_eq_is };
 
     fn partial_cmp(&self, other: &Surd) -> Option<Ordering> {
         Some(self.cmp(other))
@@ -264,7 +266,7 @@ impl Wide {
 
     /// The sign.
     pub fn sgn(&self) -> Sgn
-        requires { IsWithin 60 20 (wide_number_of self.now) }
+        requires { IsWithin 62 20 (wide_number_of self.now) }
         ensures { result ≡ sign_of (wide_number_of self.now) }
     {
         self.triple().sgn()
@@ -305,6 +307,42 @@ impl Wide {
             b: least.b,
             k: least.k,
         }
+    }
+}
+
+impl Ord for Wide {
+    ghost use Rattle.std.specs.Prelude.{refl};
+    ghost use Rattle.surd_number.specs.Order.{compare_wides};
+    ghost use Rattle.surd_number.specs.SurdLaws.{compare_wides_total, wide_eq_is};
+
+    ghost cmp = { compare_wides };
+
+    ghost total = { compare_wides_total };
+
+    ghost matches_partial_cmp = { λ _ _. refl };
+
+    ghost matches_eq = { wide_eq_is };
+
+    fn cmp(&self, other: &Wide) -> Ordering {
+        self.a
+            .cmp(&other.a)
+            .then(self.b.cmp(&other.b).then(self.k.cmp(&other.k)))
+    }
+}
+
+impl PartialOrd for Wide {
+    ghost use Rattle.std.specs.Ordering.{as_partial_cmp};
+    ghost use Rattle.std.specs.Prelude.{refl};
+    ghost use Rattle.std.specs.Cmp.{partial_order_from_agreeing_total};
+    ghost use Rattle.surd_number.specs.Order.{compare_wides};
+    ghost use Rattle.surd_number.specs.SurdLaws.{compare_wides_total, wide_eq_is};
+
+    ghost partial_cmp = { as_partial_cmp compare_wides };
+
+    ghost laws = { partial_order_from_agreeing_total compare_wides compare_wides_total (λ _ _. refl) wide_eq_is };
+
+    fn partial_cmp(&self, other: &Wide) -> Option<Ordering> {
+        Some(self.cmp(other))
     }
 }
 

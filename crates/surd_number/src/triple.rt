@@ -107,8 +107,8 @@ impl Triple {
 
     /// The sign.
     pub(crate) fn sgn(&self) -> Sgn
-        requires few_bits_a { unsigned_abs self.now.a ≤ 2 ^ 60 }
-        requires few_bits_b { unsigned_abs self.now.b ≤ 2 ^ 60 }
+        requires few_bits_a { unsigned_abs self.now.a ≤ 2 ^ 62 }
+        requires few_bits_b { unsigned_abs self.now.b ≤ 2 ^ 62 }
         ensures { result ≡ sign_of (triple_number_of self.now) }
     {
         sign_of_parts(self.a, self.b)
