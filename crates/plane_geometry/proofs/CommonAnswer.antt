@@ -11,8 +11,8 @@ use Rattle.plane_geometry.specs.Position.{Position, position_of}
 use Rattle.plane_geometry.specs.Direction.{side_of, is_zero}
 use Rattle.plane_geometry.specs.Stretch.{Stretch, is_in_line}
 use Rattle.plane_geometry.specs.StretchLaws.{zero_is}
-use Rattle.plane_geometry.specs.LineView.{line_number, side_of_line, IsOnLine, HasNoCommonPoint}
-use Rattle.plane_geometry.specs.Common.{is_parallel, common_of, HaveNoPointInLine}
+use Rattle.plane_geometry.specs.LineView.{line_number, side_of_line, IsOnLine, IsPoint, HasNoCommonPoint}
+use Rattle.plane_geometry.specs.Common.{is_parallel, common_of}
 use Rattle.plane_geometry.specs.CommonLaws.{side_modulo, side_from_modulo, common_some, common_none, common_parallel}
 use Rattle.plane_geometry.proofs.Meets.{is_point}
 
@@ -36,14 +36,14 @@ module _ (s u : Stretch) (l m : Line) (few_s : s.dir < 16) (few_u : u.dir < 16) 
   common_in_line (Ok p) on = (ap is_zero (on_first (position_of p) on.0), ap is_zero (on_second (position_of p) on.1))
   common_in_line (Err e) on = tt
 
-  pub common_out_of_range : (r : Result Point MeetFault) → ((r ≡ Err OutOfRange) ↔ ((line_number l ≢ line_number m) × HasNoCommonPoint l m)) → (r ≡ Err OutOfRange) ↔ ((is_parallel s u ≡ false) × HaveNoPointInLine s u)
+  pub common_out_of_range : (r : Result Point MeetFault) → ((r ≡ Err OutOfRange) ↔ ((line_number l ≢ line_number m) × HasNoCommonPoint l m)) → (r ≡ Err OutOfRange) ↔ ((is_parallel s u ≡ false) × ((p : Position) → (is_in_line p s ≡ true) × (is_in_line p u ≡ true) → ¬ IsPoint p))
   common_out_of_range r range = (
     (λ e.
         let none = range.0 e in
-        (apart none.0, λ p in_s in_u. none.1 p (in_first p (zero_is _ in_s)) (in_second p (zero_is _ in_u)))),
+        (apart none.0, λ p on. none.1 p (in_first p (zero_is _ on.0)) (in_second p (zero_is _ on.1)))),
     λ w. range.1 (
       (λ e. both_ways (is_parallel s u) w.0 (eq-eqb (s.dir % 8) (u.dir % 8) (sym at_l ∙ e ∙ at_m))),
-      λ p on_l on_m. w.1 p (ap is_zero (on_first p on_l)) (ap is_zero (on_second p on_m)),
+      λ p on_l on_m. w.1 p (ap is_zero (on_first p on_l), ap is_zero (on_second p on_m)),
     ),
   )
 

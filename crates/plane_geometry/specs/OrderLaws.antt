@@ -3,7 +3,7 @@ use Rattle.std.proofs.Common.{◌≡◌, ◌↔◌, ◌&&◌, Bool, true, Decide
 use Rattle.std.specs.Cmp.{IsTotalOrder, both_tied, unsigned_ties}
 use Rattle.std.specs.declared.cmp.Ordering.{Ordering}
 use Rattle.std.specs.declared.cmp.Ordering.TheVariants.{Less, Equal, Greater}
-use Rattle.std.specs.Ordering.{is_lt, is_eq, eq_by_cmp, ordering_then, ordering_reverse, nat_cmp, int_cmp}
+use Rattle.std.specs.Ordering.{is_lt, is_eq, eq_by_cmp, ordering_then, ordering_reverse, nat_cmp}
 use Rattle.std.proofs.lemmas.Bool.{false≢true}
 use Rattle.std.proofs.lemmas.Bool.Decides.{Decides-and, Decides-eqb, same_from_decides}
 use Rattle.std.proofs.lemmas.Cmp.{on_total, then_total, tied_itself, nat_cmp_total, ranked}
@@ -16,7 +16,7 @@ use Rattle.surd_number.specs.Value.{number_of}
 use Rattle.plane_geometry.specs.declared.Point.{Point}
 use Rattle.plane_geometry.specs.declared.Segment.{Segment}
 use Rattle.plane_geometry.specs.declared.Line.{Line}
-use Rattle.plane_geometry.specs.Position.{Position, position_of, compare_positions}
+use Rattle.plane_geometry.specs.Position.{Position, position_of, compare_positions, is_same_position}
 use Rattle.plane_geometry.specs.Stretch.{Stretch}
 use Rattle.plane_geometry.specs.StretchLaws.{zero_is, same_is}
 use Rattle.plane_geometry.specs.SegmentView.{stretch_of, lesser_end, greater_end}
@@ -48,6 +48,12 @@ compare_positions_total = then_total (on_total (λ (p : Position). p.x) compare_
 pub tied_points : (p q : Point) → compare_positions (position_of p) (position_of q) ≡ Equal → p ≡ q
 tied_points p q e = point_is p q (zero_is _ (sym (same_is (position_of p) (position_of q)) ∙ ap is_eq e))
 
+pub point_is_place : (p q : Point) → (p ≡ q) ↔ (is_same_position (position_of p) (position_of q) ≡ true)
+point_is_place p q = (
+  (λ e. ap is_eq (subst (λ (r : Point). compare_positions (position_of p) (position_of r) ≡ Equal) e (tied_itself compare_positions_total (position_of p)))),
+  λ e. tied_points p q (equal_is _ e),
+)
+
 abbrev surd_test : Surd → Surd → Bool
 surd_test x y = int_eq x.a y.a && (int_eq x.b y.b && nat_eq x.k y.k)
 
@@ -55,10 +61,7 @@ abbrev point_test : Point → Point → Bool
 point_test p q = surd_test p.x q.x && surd_test p.y q.y
 
 point_test_says : (p q : Point) → Decides (point_test p q) (p ≡ q)
-point_test_says p q = (
-  (λ e. tied_points p q (equal_is _ (sym tie ∙ e))),
-  λ e. tie ∙ ap is_eq (subst (λ (r : Point). compare_positions (position_of p) (position_of r) ≡ Equal) e (tied_itself compare_positions_total (position_of p))),
-)
+point_test_says p q = ((λ e. (point_is_place p q).1 (sym tie ∙ e)), λ e. tie ∙ (point_is_place p q).0 e)
   where
     tie : point_test p q ≡ is_eq (compare_positions (position_of p) (position_of q))
     tie =

@@ -3,9 +3,10 @@
 ghost use Rattle.std.specs.Prelude.{◌≡◌, ℕ, ◌+◌, ◌<◌, ◌↔◌, IsTrue};
 ghost use Rattle.std.specs.declared.cmp.Ordering.TheVariants.{Equal};
 ghost use Rattle.surd_number.specs.Number.{IsSame, unit_of};
+ghost use Rattle.plane_geometry.specs.declared.Point.{Point};
 ghost use Rattle.plane_geometry.specs.declared.Line.{Line};
 ghost use Rattle.plane_geometry.specs.declared.Segment.{Segment};
-ghost use Rattle.plane_geometry.specs.Position.{Position, opposite_of, cross_of};
+ghost use Rattle.plane_geometry.specs.Position.{Position, position_of, is_same_position, opposite_of, cross_of};
 ghost use Rattle.plane_geometry.specs.Direction.{direction_vector, is_along};
 ghost use Rattle.plane_geometry.specs.CrossTable.{cross_tangents, cross_roots};
 ghost use Rattle.plane_geometry.specs.LineView.{HaveSamePoints};
@@ -37,6 +38,11 @@ pub fn cross_products_are_units()
 pub fn lines_are_their_points()
     ensures equal { (l m : Line) → (l ≡ m) ↔ HaveSamePoints l m }
     ensures tied { (l m : Line) → (compare_lines l m ≡ Equal) ↔ HaveSamePoints l m }
+{}
+
+/// Points are equal exactly where they are one place of the plane, by x and by y.
+pub fn points_are_their_places()
+    ensures { (p q : Point) → (p ≡ q) ↔ IsTrue (is_same_position (position_of p) (position_of q)) }
 {}
 
 /// Segments are equal, and their order ties them, exactly where they have the same ends.

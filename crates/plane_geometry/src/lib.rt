@@ -18,7 +18,7 @@ ghost use Rattle.plane_geometry.specs.LineStored.{PassesThroughPoint};
 
 pub use directions::direction;
 pub use lines::side;
-pub use meeting::{MeetFault, common_point, meet};
+pub use meeting::{MeetFault, common_point, cross_unit, meet};
 pub use segments::{between_ends, meets_at_ends, on_segment, overlaps, parallel, share_point};
 pub use sides::side_from;
 use sides::{cross_at, is_before};
@@ -97,6 +97,7 @@ impl Dir {
 impl Segment {
     ghost use Rattle.plane_geometry.specs.DirView.{dir_number};
     ghost use Rattle.plane_geometry.specs.Position.{compare_positions};
+    ghost use Rattle.plane_geometry.specs.Direction.{is_along};
     ghost use Rattle.plane_geometry.specs.Ends.{lesser_of, greater_of, HasNoDirection};
     ghost use Rattle.plane_geometry.specs.SegmentView.{lesser_end, greater_end, direction_number, stretch_of};
     ghost use Rattle.plane_geometry.specs.Stretch.{is_on};
@@ -136,7 +137,8 @@ impl Segment {
 
     /// The lesser end.
     pub fn from(&self) -> &Point
-        ensures { result.now ≡ lesser_end self.now }
+        ensures value { result.now ≡ lesser_end self.now }
+        ensures first { IsTrue (is_lt (compare_positions (position_of result.now) (position_of (greater_end self.now)))) }
     {
         &self.from
     }
@@ -166,7 +168,8 @@ impl Segment {
 
     /// The direction from the lesser end to the greater one.
     pub fn dir(&self) -> Dir
-        ensures { dir_number result ≡ direction_number self.now }
+        ensures value { dir_number result ≡ direction_number self.now }
+        ensures along { IsTrue (is_along (dir_number result) (stretch_of self.now).from (stretch_of self.now).to) }
     {
         self.dir
     }
@@ -210,8 +213,10 @@ impl PartialOrd for Segment {
 }
 
 impl Line {
-    ghost use Rattle.std.specs.Prelude.{◌%◌};
+    ghost use Rattle.std.specs.Prelude.{◌%◌, ◌*◌, ◌^◌};
     ghost use Rattle.surd_number.specs.Exact.{IsWideOf};
+    ghost use Rattle.surd_number.specs.Number.{FitsOver};
+    ghost use Rattle.surd_number.specs.Value.{wide_number_of};
     ghost use Rattle.plane_geometry.specs.Position.{Position, cross_of};
     ghost use Rattle.plane_geometry.specs.Direction.{direction_vector, side_of};
     ghost use Rattle.plane_geometry.specs.DirView.{dir_number};
@@ -241,7 +246,8 @@ impl Line {
 
     /// The cross product of the direction with any point of the line.
     pub fn offset(&self) -> Wide
-        ensures { result ≡ line_offset self.now }
+        ensures value { result ≡ line_offset self.now }
+        ensures fits { FitsOver (6 * 2 ^ 52) 16 (wide_number_of result) }
     {
         self.offset
     }

@@ -1,6 +1,6 @@
 -- Surds as values: those of one value are one Surd, and their order is total.
 use Rattle.std.specs.Prelude.{ℕ, Result, Ok, Err, IfOk}
-use Rattle.std.proofs.Common.{◌≡◌, ◌↔◌, ◌∙◌, ◌&&◌, Decides, int_eq, nat_eq, ◌*ℤ◌, ap, ap₂, sym, refl}
+use Rattle.std.proofs.Common.{◌≡◌, ◌↔◌, ◌∙◌, [], ◌∷◌, ◌&&◌, Decides, int_eq, nat_eq, ◌*ℤ◌, ap, ap₂, sym, refl}
 use Rattle.std.specs.Cmp.{IsTotalOrder, both_tied, unsigned_ties}
 use Rattle.std.specs.declared.cmp.Ordering.{Ordering}
 use Rattle.std.specs.declared.cmp.Ordering.TheVariants.{Less, Equal, Greater}
@@ -13,8 +13,9 @@ use mathlib.Core.HLevel.{is_prop→PathP, Π_prop}
 use Rattle.surd_number.specs.declared.Surd.{Surd}
 use Rattle.surd_number.specs.declared.Wide.{Wide}
 use Rattle.surd_number.specs.declared.OutOfRange.{OutOfRange}
-use Rattle.surd_number.specs.Number.{Number, power, IsSame, IsCanonical, product_of, unit_of, unit_inverse_of}
-use Rattle.surd_number.specs.NumberLaws.{canonical-same, unit_quotient}
+use Rattle.surd_number.specs.Number.{Number, power, IsSame, IsCanonical, sum_of, product_of, half_of, unit_of, unit_inverse_of, root_two, half_root}
+use Rattle.surd_number.specs.NumberLaws.{IsSame-trans, canonical-same, sum_of-same, half_of-sum_itself, unit_quotient, number_ring_from}
+use Rattle.surd_number.specs.RingTool.{◌⊗◌, con, v0, v1}
 use Rattle.surd_number.specs.SignLaws.{compare_of-equal, compare_of_total}
 use Rattle.surd_number.specs.Stored.{IsStored, IsStoredWide}
 use Rattle.surd_number.specs.Value.{number_of, wide_number_of}
@@ -104,3 +105,15 @@ compare_wides-equal v w =
 pub exactly_quotient : (i j : ℕ) (x : Number) (r : Result Surd OutOfRange) → IsExactly r (product_of x (unit_inverse_of i j)) → IfOk r (λ q. IsSame (product_of (number_of q) (unit_of i j)) x)
 exactly_quotient i j x (Ok q) h = (unit_quotient i j (number_of q) x).1 h
 exactly_quotient i j x (Err e) h = tt
+
+-- twice an exact half is the number
+pub exactly_half : (x : Number) (r : Result Surd OutOfRange) → IsExactly r (half_of x) → IfOk r (λ h. IsSame (sum_of (number_of h) (number_of h)) x)
+exactly_half x (Ok h) e =
+    IsSame-trans (sum_of (number_of h) (number_of h)) (sum_of (half_of x) (half_of x)) x
+    (sum_of-same (number_of h) (number_of h) (half_of x) (half_of x) e e) (half_of-sum_itself x)
+exactly_half x (Err f) e = tt
+
+-- a product with sqrt 2 / 2, times sqrt 2, is the number
+pub half_root_times_root : (r x : Number) → IsSame r (product_of x half_root) → IsSame (product_of r root_two) x
+half_root_times_root r x e =
+    number_ring_from (r ∷ x ∷ []) v0 (v1 ⊗ con half_root) (con root_two) (v0 ⊗ con root_two) v1 refl e

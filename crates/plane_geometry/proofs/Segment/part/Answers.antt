@@ -2,7 +2,7 @@ use Rattle.std.proofs.Common.{sym, ◌∙◌}
 use Rattle.plane_geometry.specs.Position.{position_of}
 use Rattle.plane_geometry.specs.SegmentView.{stretch_of}
 use Rattle.plane_geometry.specs.StretchLaws.{before_is, positive_is, on_parts}
-use Rattle.plane_geometry.specs.CommonPoints.{along_line}
+use Rattle.plane_geometry.specs.CommonPointLaws.{along_line}
 use Rattle.plane_geometry.specs.SegmentLaws.{segment_of-ends}
 use Rattle.plane_geometry.proofs.Segment.part.Goals as goal
 
