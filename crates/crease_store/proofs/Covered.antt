@@ -16,7 +16,7 @@ use Rattle.crease_model.specs.declared.Piece.{Piece}
 use Rattle.crease_model.specs.Rules.{AllMeetAtEnds}
 use Rattle.crease_model.specs.PartLaws.{ends_lie, on_covering}
 use Rattle.line_split.specs.Cuts.{is_meeting_point}
-use Rattle.line_split.specs.Members.{Member, any_member, member_any}
+use Rattle.line_split.specs.MemberLaws.{Member, any_member, member_any}
 use Rattle.crease_store.specs.Added.{covers, is_vertex}
 use Rattle.crease_store.proofs.Members.{members_meet}
 

@@ -20,7 +20,7 @@ use Rattle.crease_model.specs.Rules.{AllMeetAtEnds, is_ascending, segments_of}
 use Rattle.plane_geometry.specs.Common.{is_parallel}
 use Rattle.crease_model.specs.PartLaws.{turn_in_line, one_line, ends_lie}
 use Rattle.line_split.specs.Cuts.{is_meeting_point}
-use Rattle.line_split.specs.Members.{Member, member, contained, all_from_members, member_any}
+use Rattle.line_split.specs.MemberLaws.{Member, member, contained, all_from_members, member_any}
 use Rattle.crease_store.specs.Added.{covers, is_vertex, HasAddedKind, IsPieceOfAdd}
 use Rattle.crease_store.proofs.Members.{members_meet}
 use Rattle.crease_store.proofs.Ascending.{ascending_rest, differs_later}

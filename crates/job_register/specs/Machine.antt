@@ -6,12 +6,11 @@ use Rattle.crease_model.specs.View.{PatternView, empty_on}
 use Rattle.crease_model.specs.Sheet.{square_corners}
 use Rattle.crease_model.specs.NewSheet.{sheet_of}
 use Rattle.crease_model.specs.Rules.{size_of}
-use Rattle.crease_store.specs.declared.faults.StoreFault.{StoreFault}
-use Rattle.crease_store.specs.declared.loading.LoadStoreFault.{LoadStoreFault}
+use Rattle.crease_store.specs.declared.faults.StoreRefusal.{StoreRefusal}
 use Rattle.crease_store.specs.Adding.{add_of}
 use Rattle.crease_store.specs.Changed.{delete_of, set_of, clear_of}
 use Rattle.crease_store.specs.Merged.{merge_of}
-use Rattle.crease_store.specs.Loading.{load_of}
+use Rattle.crease_store.specs.Loading.{LoadRefusal, load_of}
 use Rattle.undo_journal.specs.Versions.{JournalView, opened, committed, undone, redone, pattern_at, greatest_of}
 use Rattle.script_lang.specs.declared.block.LoadStop.{LoadStop}
 use Rattle.script_lang.specs.declared.block.LoadStop.TheVariants as stop
@@ -53,9 +52,9 @@ moved j = record { reply = Version j.current (size_of (current_pattern_of j)); s
 abbrev pub committed_answer : State → PatternView → Answer
 committed_answer s pattern = if nat_eq (greatest_of s.journal) 1000 then refused s refusal.Full else moved (committed s.journal pattern)
 
-abbrev pub changed : State → Result PatternView StoreFault → Answer
+abbrev pub changed : State → Result PatternView StoreRefusal → Answer
 changed s (Ok pattern) = committed_answer s pattern
-changed s (Err fault) = refused s (store_refusal fault)
+changed s (Err refusal) = refused s (store_refusal refusal)
 
 -- the new sheet with nothing on it
 abbrev pub sheet_answer : State → Result (List Point) ℕ → Answer
@@ -69,9 +68,9 @@ stopped s (stop.Bad number fault) pattern = refused s (refusal.LoadLine number (
 stopped s stop.Unended pattern = refused s refusal.LoadUnended
 
 -- a block is refused by its first line that is not added, else by how it ends
-abbrev pub load_answer : State → LoadStop → Result PatternView LoadStoreFault → Answer
+abbrev pub load_answer : State → LoadStop → Result PatternView LoadRefusal → Answer
 load_answer s end (Ok pattern) = stopped s end pattern
-load_answer s end (Err refused_line) = refused s (refusal.LoadLine refused_line.number (cause.Add refused_line.fault))
+load_answer s end (Err refused_line) = refused s (refusal.LoadLine refused_line.number (cause.Add refused_line.refusal))
 
 abbrev pub redone_answer : State → Option JournalView → Answer
 redone_answer s None = refused s refusal.NothingToRedo

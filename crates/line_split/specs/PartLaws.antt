@@ -17,8 +17,8 @@ use Rattle.plane_geometry.specs.CommonPointLaws.{LiesBetween, between_parts, bet
 use Rattle.plane_geometry.specs.SegmentLaws.{segment_is, segment_of-ends}
 use Rattle.crease_model.specs.declared.Kind.{Kind}
 use Rattle.crease_model.specs.declared.Piece.{Piece}
-use Rattle.line_split.specs.Members.{Member, member, contained, filter_member, member_filter}
-use Rattle.line_split.specs.Cuts.{is_rising}
+use Rattle.line_split.specs.MemberLaws.{Member, member, contained, filter_member, member_filter}
+use Rattle.line_split.specs.Points.{is_rising}
 use Rattle.line_split.specs.Parts.{inner_points, piece_on, pieces_between, parts_of}
 pub use Rattle.line_split.specs.Parts.{IsPartEnd, IsPart}
 use Rattle.line_split.specs.PointLaws.{point_order, rising_rest, rising_next, rising_later, rising_from, filter_rising, not_before_itself, not_before_each_other}

@@ -6,7 +6,8 @@ use Rattle.plane_geometry.specs.declared.Segment.{Segment}
 use Rattle.crease_model.specs.declared.Piece.{Piece}
 use Rattle.crease_model.specs.Sheet.{sides_from, sides_of}
 use Rattle.crease_model.specs.View.{PatternView}
-use Rattle.crease_store.specs.OwnLines.{PlainLine, plain_line, side_line, piece_line as piece_loaded, auxiliary_line as auxiliary_loaded, own_lines, OwnLinesAreLoaded}
+use Rattle.crease_model.specs.OwnLines.{PlainLine, side_line, piece_line as piece_loaded, auxiliary_line as auxiliary_loaded, own_lines}
+use Rattle.crease_store.specs.OwnLines.{plain_line, OwnLinesAreLoaded}
 use Rattle.cp_text.specs.declared.line.CpLine.{CpLine}
 use Rattle.cp_text.specs.LineText.{side_lines_from, side_lines, piece_line, auxiliary_line, pattern_lines}
 use Rattle.script_lang.specs.Laws.{numbered_lines, PrintedPatternsAreLoaded, PrintedPatternsComeBack}
