@@ -1,3 +1,4 @@
 pub mod Linear
+pub mod LinearView
 pub mod Matrix
 pub mod Laws

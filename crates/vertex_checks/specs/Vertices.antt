@@ -1,5 +1,5 @@
 -- The vertices that are checked: the ends of pieces strictly inside the sheet, in ascending order.
-use Rattle.std.specs.Prelude.{Bool, true, false, List, [], ◌∷◌, if◌then◌else◌}
+use Rattle.std.specs.Prelude.{◌≡◌, ◌⊎◌, Bool, true, false, List, [], ◌∷◌, Contains, if◌then◌else◌}
 use Rattle.plane_geometry.specs.declared.Point.{Point}
 use Rattle.plane_geometry.specs.Position.{position_of}
 use Rattle.plane_geometry.specs.SegmentView.{lesser_end, greater_end}
@@ -9,6 +9,17 @@ use Rattle.crease_model.specs.declared.Place.TheVariants.{Outside, Border, Insid
 use Rattle.crease_model.specs.Sheet.{place_of}
 use Rattle.crease_model.specs.View.{PatternView}
 use Rattle.line_split.specs.Cuts.{with_point}
+
+-- v is an end of the piece
+abbrev pub IsEnd : Piece → Point → Type 0
+IsEnd p v = (lesser_end p.segment ≡ v) ⊎ (greater_end p.segment ≡ v)
+
+-- strictly inside the sheet, and an end of a piece
+pub record IsInnerEnd (pattern : PatternView) (v : Point) : Type 0 where
+  pub inside : place_of pattern.corners (position_of v) ≡ Inside
+  pub ends : (p : Piece) × Contains pattern.pieces p × IsEnd p v
+
+-- ---- the same as a list
 
 abbrev pub is_inside : Place → Bool
 is_inside Outside = false
