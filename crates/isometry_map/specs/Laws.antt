@@ -6,7 +6,10 @@ use Rattle.isometry_map.specs.Matrix.{matrix_of, matrix_product, determinant, Is
 
 -- the matrix of a composition is the product of the matrices
 abbrev pub CompositionIsProduct : Type 0
-CompositionIsProduct = (i j : ℕ) → i < 16 → j < 16 → IsSameMatrix (matrix_of (composed i j)) (matrix_product (matrix_of i) (matrix_of j))
+CompositionIsProduct =
+    (i j : ℕ)
+    → i < 16 → j < 16
+    → IsSameMatrix (matrix_of (composed i j)) (matrix_product (matrix_of i) (matrix_of j))
 
 -- different numbers have different matrices
 abbrev pub PartsDiffer : Type 0
@@ -18,4 +21,7 @@ ReflectionsKeepTheirLines = (n : ℕ) → n < 16 → IsMirrorOf n (matrix_of (re
 
 -- orientation is reversed where the determinant is -1, and else it is 1
 abbrev pub TurnedReverse : Type 0
-TurnedReverse = (n : ℕ) → n < 16 → IsSame (determinant (matrix_of n)) (if is_reflection n then whole (negsuc 0) else whole (pos 1))
+TurnedReverse =
+    (n : ℕ)
+    → n < 16
+    → IsSame (determinant (matrix_of n)) (if is_reflection n then whole (negsuc 0) else whole (pos 1))

@@ -1,4 +1,4 @@
 pub mod Linear
-pub mod LinearView
 pub mod Matrix
+pub mod LinearView
 pub mod Laws

@@ -71,4 +71,5 @@ pub record IsSameMatrix (m n : Matrix) : Type 0 where
 abbrev pub IsMirrorOf : ℕ → Matrix → Type 0
 IsMirrorOf n m =
     IsSameVector (image_of m (direction_vector n)) (direction_vector n)
-    × IsSameVector (image_of m (normal_of (direction_vector n))) (opposite_of (normal_of (direction_vector n)))
+    × IsSameVector (image_of m (normal_of (direction_vector n)))
+    (opposite_of (normal_of (direction_vector n)))

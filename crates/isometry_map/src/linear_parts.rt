@@ -20,7 +20,7 @@ impl Linear {
     ghost use Rattle.surd_number.specs.Number.{IsSame, whole};
     ghost use Rattle.plane_geometry.specs.DirView.{dir_number};
     ghost use Rattle.isometry_map.specs.Linear.{rotation, reflection};
-    ghost use Rattle.isometry_map.specs.LinearView.{linear_number};
+    ghost use Rattle.isometry_map.specs.LinearView.{linear_number, matrix_in};
     ghost use Rattle.isometry_map.specs.Matrix.{determinant, IsMirrorOf};
 
     /// The identity.
@@ -33,7 +33,7 @@ impl Linear {
     /// The reflection in a line of this direction. Opposite directions give the same one.
     pub fn reflection(d: Dir) -> Linear
         ensures value { linear_number result ≡ reflection (dir_number d) }
-        ensures mirror { IsMirrorOf (dir_number d) (matrix_of (linear_number result)) }
+        ensures mirror { IsMirrorOf (dir_number d) (matrix_in result) }
     {
         Linear {
             number: 8 + d.number() % 8,
@@ -43,7 +43,7 @@ impl Linear {
     /// The linear part of `first`, then `self`.
     pub fn after(self, first: Linear) -> Linear
         ensures value { linear_number result ≡ composed (linear_number self) (linear_number first) }
-        ensures product { IsSameMatrix (matrix_of (linear_number result)) (matrix_product (matrix_of (linear_number self)) (matrix_of (linear_number first))) }
+        ensures product { IsSameMatrix (matrix_in result) (matrix_product (matrix_in self) (matrix_in first)) }
     {
         Linear {
             number: compose_linear(self.number, first.number),
@@ -53,7 +53,7 @@ impl Linear {
     /// Whether orientation is reversed.
     pub fn turned(self) -> bool
         ensures value { result ≡ is_reflection (linear_number self) }
-        ensures reverses { IsSame (determinant (matrix_of (linear_number self))) (if result then whole (negsuc 0) else whole (pos 1)) }
+        ensures reverses { IsSame (determinant (matrix_in self)) (if result then whole (negsuc 0) else whole (pos 1)) }
     {
         is_turned(self.number)
     }

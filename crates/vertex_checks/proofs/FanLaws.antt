@@ -1,9 +1,8 @@
 -- The fan of a point of a pattern is just the rays in which pieces leave it, by ascending direction.
-use Rattle.std.proofs.Common.{◌≡◌, ◌↔◌, ℕ, ◌+◌, ◌<◌, ◌≤◌, Bool, true, false, cond, ltb, ◌⊎◌, inl, inr, List, [], ◌∷◌, Option, None, Some, refl, sym, ap, subst, ◌∙◌, arith}
+use Rattle.std.proofs.Common.{◌≡◌, ◌+◌, ◌<◌, ◌≤◌, Bool, true, false, cond, ltb, ◌⊎◌, inl, inr, List, [], ◌∷◌, Option, None, Some, refl, sym, ap, subst, ◌∙◌, arith}
 use Rattle.std.specs.Prelude.{Contains}
 use Rattle.std.specs.List.Sorted.{IsStrictlySortedBy}
-use Rattle.std.specs.Ordering.{nat_cmp}
-use Rattle.std.specs.declared.cmp.Ordering.TheVariants.{Less, Equal, Greater}
+use Rattle.std.specs.declared.cmp.Ordering.TheVariants.{Less}
 use Rattle.std.proofs.lemmas.Bool.{cond_both, cond-true, cond-false, ltb-true, ltb-false}
 use Rattle.std.proofs.lemmas.Cmp.{ranked}
 use Rattle.plane_geometry.specs.declared.Point.{Point}
@@ -15,8 +14,7 @@ use Rattle.plane_geometry.specs.StretchLaws.{same_is, zero_is, ends_order}
 use Rattle.plane_geometry.specs.SegmentLaws.{point_is}
 use Rattle.plane_geometry.specs.Stretch.{MeetAtEnds}
 use Rattle.crease_model.specs.declared.Piece.{Piece}
-use Rattle.crease_model.specs.View.{PatternView}
-use Rattle.crease_model.specs.Rules.{AllMeetAtEnds, IsPattern}
+use Rattle.crease_model.specs.Rules.{AllMeetAtEnds}
 use Rattle.line_split.specs.Members.{Member, member, contained, all_member}
 use Rattle.vertex_checks.specs.declared.fans.Ray.{Ray}
 use Rattle.vertex_checks.specs.Fan.{ray_number, ray_of, Leaves, compare_rays, IsFan, ray_at, with_ray, with_ray_if, fan_from, fan_of}

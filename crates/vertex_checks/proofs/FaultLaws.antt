@@ -1,5 +1,5 @@
 -- The faults of a pattern are just those that its inner vertices have.
-use Rattle.std.proofs.Common.{◌≡◌, ◌↔◌, ◌≢◌, ℕ, ◌+◌, ◌-◌, ◌<◌, ◌≤◌, Bool, true, false, cond, ◌&&◌, ◌||◌, eqb, ltb, ◌⊎◌, inl, inr, List, [], ◌∷◌, ◌++◌, length, map, flat_map, refl, sym, ap, ap₂, subst, ◌∙◌, arith}
+use Rattle.std.proofs.Common.{◌≡◌, ◌↔◌, ◌≢◌, ℕ, ◌+◌, ◌-◌, ◌<◌, ◌≤◌, true, false, ◌&&◌, eqb, ltb, inl, inr, List, [], ◌∷◌, ◌++◌, length, flat_map, refl, sym, ap, ap₂, subst, ◌∙◌, arith}
 use Rattle.std.specs.Prelude.{Contains}
 use Rattle.std.specs.List.{range_with_len}
 use Rattle.std.proofs.lemmas.Bool.{cond_both, cond-true, cond-false, and_parts, and_from, or_parts, or_from, eq-eqb, eqb-true, eqb-false, ne_eqb, ltb-true, lt-ltb, ltb-false, le-ltb, both_ways, false_from_ne_true}
@@ -17,8 +17,8 @@ use Rattle.vertex_checks.specs.declared.faults.VertexFault.{VertexFault}
 use Rattle.vertex_checks.specs.Vertices.{IsEnd, IsInnerEnd, vertices_of}
 use Rattle.vertex_checks.specs.Fan.{ray_of, Leaves, IsFan, fan_of}
 use Rattle.plane_geometry.specs.SegmentView.{direction_number}
-use Rattle.vertex_checks.specs.Sectors.{ray_in, around, sector_at, reflected_from, ComesRound, IsStraight, is_same_kind, count_of_kind, IsUnbalanced, IsSmallSector}
-use Rattle.vertex_checks.specs.Faults.{HasInnerFan, HasSmallSector, Breaks, IsFault, KawasakiIsByAngles, comes_round, kawasaki_faults, differ_by_two, maekawa_faults, is_small_sector, little_fault_at, little_faults, fan_faults, vertex_fault, faults_at, faults_of}
+use Rattle.vertex_checks.specs.Sectors.{ray_in, around, sector_at, reflected_from, ComesRound, is_same_kind, count_of_kind, IsUnbalanced, IsSmallSector}
+use Rattle.vertex_checks.specs.Faults.{HasSmallSector, Breaks, IsFault, KawasakiIsByAngles, comes_round, kawasaki_faults, differ_by_two, maekawa_faults, is_small_sector, little_fault_at, little_faults, fan_faults, vertex_fault, faults_at, faults_of}
 use Rattle.vertex_checks.proofs.SortedLists.{member_left, member_right, member_either, member_map, map_member, member_flat, flat_member, range_member, member_range}
 use Rattle.vertex_checks.proofs.FanLaws.{fan_is, one_fan}
 use Rattle.vertex_checks.proofs.KawasakiLaws.{round_exactly}

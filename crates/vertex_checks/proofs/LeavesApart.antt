@@ -1,12 +1,12 @@
 -- Two pieces that meet at ends alone don't leave a point in one direction.
-use Rattle.std.proofs.Common.{◌≡◌, ℕ, ◌+◌, ◌%◌, ◌<◌, ◌≤◌, Bool, true, false, not, ◌&&◌, inl, inr, List, [], ◌∷◌, refl, sym, ap, subst, ◌∙◌, arith}
+use Rattle.std.proofs.Common.{◌≡◌, ℕ, ◌+◌, ◌%◌, true, false, not, ◌&&◌, inl, inr, List, [], ◌∷◌, refl, sym, ap, subst, ◌∙◌, arith}
 use Rattle.std.proofs.lemmas.Bool.{and_parts, and_from, not-true, both_ways}
 use Rattle.surd_number.specs.declared.Sgn.{Sgn}
 use Rattle.surd_number.specs.declared.Sgn.TheVariants.{Neg, Zero, Pos}
 use Rattle.surd_number.specs.SignLaws.{opposite_sign, times_sign}
 use Rattle.plane_geometry.specs.declared.Point.{Point}
 use Rattle.plane_geometry.specs.declared.Segment.{Segment}
-use Rattle.plane_geometry.specs.Position.{Position, position_of, vector_of}
+use Rattle.plane_geometry.specs.Position.{position_of, vector_of}
 use Rattle.plane_geometry.specs.Direction.{direction_vector, side_of, is_negative, is_along}
 use Rattle.plane_geometry.specs.SegmentView.{lesser_end, greater_end, direction_number, stretch_of}
 use Rattle.plane_geometry.specs.Stored.{IsStretch}
@@ -19,7 +19,7 @@ use Rattle.crease_model.specs.declared.Piece.{Piece}
 use Rattle.crease_model.specs.Rules.{AllMeetAtEnds}
 use Rattle.line_split.specs.Members.{Member, all_member}
 use Rattle.vertex_checks.specs.declared.fans.Ray.{Ray}
-use Rattle.vertex_checks.specs.Fan.{ray_number, ray_of, Leaves}
+use Rattle.vertex_checks.specs.Fan.{ray_number, Leaves}
 
 -- ---- stretches on one ray
 

@@ -1,19 +1,18 @@
 -- The faults of a pattern ascend by vertex, then by variant, then by direction.
-use Rattle.std.proofs.Common.{◌≡◌, ℕ, zero, suc, ◌+◌, ◌<◌, ◌≤◌, true, cond, ltb, inl, inr, List, [], ◌∷◌, ◌++◌, length, map, flat_map, get_or, refl, sym, ap, ap₂, subst, ◌∙◌, arith}
+use Rattle.std.proofs.Common.{◌≡◌, ℕ, zero, suc, ◌+◌, ◌<◌, ◌≤◌, true, ltb, inl, inr, List, [], ◌∷◌, ◌++◌, length, map, refl, sym, ap, ap₂, ◌∙◌, arith}
 use Rattle.std.specs.List.{range_with_len}
 use Rattle.std.specs.List.Sorted.{IsStrictlySortedBy}
-use Rattle.std.specs.Ordering.{ordering_then, nat_cmp, is_lt}
+use Rattle.std.specs.Ordering.{ordering_then, nat_cmp}
 use Rattle.std.specs.declared.cmp.Ordering.{Ordering}
-use Rattle.std.specs.declared.cmp.Ordering.TheVariants.{Less, Equal, Greater}
+use Rattle.std.specs.declared.cmp.Ordering.TheVariants.{Less}
 use Rattle.std.proofs.lemmas.Bool.{cond_both}
 use Rattle.std.proofs.lemmas.Map.Keys.{Less-from_sorted}
-use Rattle.surd_number.specs.declared.Sgn.{Sgn}
-use Rattle.surd_number.specs.declared.Sgn.TheVariants.{Neg, Zero, Pos}
+use Rattle.surd_number.specs.declared.Sgn.TheVariants.{Pos}
 use Rattle.surd_number.specs.Number.{ordering_of}
 use Rattle.surd_number.specs.SignLaws.{opposite_sign}
 use Rattle.plane_geometry.specs.declared.Point.{Point}
 use Rattle.plane_geometry.specs.Position.{position_of, compare_positions}
-use Rattle.plane_geometry.specs.SideLaws.{order_of, order_self, order_turned, compare_is}
+use Rattle.plane_geometry.specs.SideLaws.{order_self, order_turned, compare_is}
 use Rattle.crease_model.specs.View.{PatternView}
 use Rattle.crease_model.specs.Rules.{IsPattern}
 use Rattle.line_split.specs.Members.{Member}
@@ -21,12 +20,12 @@ use Rattle.line_split.specs.Cuts.{is_rising}
 use Rattle.line_split.specs.PointLaws.{point_order, rising_rest, rising_later}
 use Rattle.vertex_checks.specs.declared.fans.Ray.{Ray}
 use Rattle.vertex_checks.specs.declared.faults.LocalFault.{LocalFault}
-use Rattle.vertex_checks.specs.declared.faults.LocalFault.TheVariants.{Kawasaki, Maekawa, BigLittleBig}
+use Rattle.vertex_checks.specs.declared.faults.LocalFault.TheVariants.{Kawasaki, BigLittleBig}
 use Rattle.vertex_checks.specs.declared.faults.VertexFault.{VertexFault}
 use Rattle.vertex_checks.specs.Vertices.{vertices_of}
-use Rattle.vertex_checks.specs.Fan.{ray_number, compare_rays, fan_of}
+use Rattle.vertex_checks.specs.Fan.{compare_rays, fan_of}
 use Rattle.vertex_checks.specs.Sectors.{ray_in, no_ray}
-use Rattle.vertex_checks.specs.Faults.{variant_number, fault_direction, compare_local, compare_faults, IsInOrder, comes_round, kawasaki_faults, differ_by_two, maekawa_faults, is_small_sector, little_fault_at, little_faults, fan_faults, vertex_fault, faults_at, faults_of}
+use Rattle.vertex_checks.specs.Faults.{variant_number, fault_direction, compare_local, compare_faults, IsInOrder, comes_round, kawasaki_faults, maekawa_faults, is_small_sector, little_fault_at, little_faults, fan_faults, vertex_fault, faults_at, faults_of}
 use Rattle.vertex_checks.proofs.SortedLists.{member_either, map_member, sorted_joined, sorted_cons, sorted_rest, sorted_none, sorted_single, before_members, AscendBy, sorted_flat, range_member, cmp_less, cmp_same}
 use Rattle.vertex_checks.proofs.FanLaws.{before_ray, fan_is}
 use Rattle.vertex_checks.proofs.FaultLaws.{kawasaki_only, maekawa_only, little_at_only, little_only, sectors_with_fault}

@@ -45,8 +45,10 @@ pub record IsFan (pieces : List Piece) (v : Point) (fan : List Ray) : Type 0 whe
 -- how the piece leaves v: from its lesser end in its direction, and from its greater one in the opposite direction
 abbrev pub ray_at : Point → Piece → Option Ray
 ray_at v p =
-    if is_same_position (position_of (lesser_end p.segment)) (position_of v) then Some (ray_of p (direction_number p.segment))
-    else if is_same_position (position_of (greater_end p.segment)) (position_of v) then Some (ray_of p (direction_number p.segment + 8))
+    if is_same_position (position_of (lesser_end p.segment)) (position_of v)
+    then Some (ray_of p (direction_number p.segment))
+    else if is_same_position (position_of (greater_end p.segment)) (position_of v)
+    then Some (ray_of p (direction_number p.segment + 8))
     else None
 
 -- rays by their directions with one more

@@ -27,7 +27,8 @@ HasInnerFan pattern v IsSo = IsInnerEnd pattern v × ((fan : List Ray) × IsFan 
 
 -- there are four creases at least, and a small sector that begins in direction d
 abbrev pub HasSmallSector : List Ray → Dir → Type 0
-HasSmallSector fan d = (4 ≤ length fan) × ((k : ℕ) × (k < length fan) × IsSmallSector fan k × (d ≡ (ray_in fan k).dir))
+HasSmallSector fan d =
+    (4 ≤ length fan) × ((k : ℕ) × (k < length fan) × IsSmallSector fan k × (d ≡ (ray_in fan k).dir))
 
 -- the creases of a fan have this fault
 abbrev pub Breaks : List Ray → LocalFault → Type 0
@@ -43,7 +44,8 @@ IsFault pattern f = HasInnerFan pattern f.vertex (λ fan. Breaks fan f.fault)
 abbrev pub KawasakiIsByAngles : PatternView → List VertexFault → Type 0
 KawasakiIsByAngles pattern faults =
     (v : Point)
-    → Contains faults (record { vertex = v; fault = Kawasaki }) ↔ HasInnerFan pattern v (λ fan. ¬ IsStraight fan)
+    → Contains faults (record { vertex = v; fault = Kawasaki })
+    ↔ HasInnerFan pattern v (λ fan. ¬ IsStraight fan)
 
 -- ---- in which order
 
@@ -61,12 +63,14 @@ fault_direction (BigLittleBig d) = dir_number d
 -- by variant, then by direction
 abbrev pub compare_local : LocalFault → LocalFault → Ordering
 compare_local f g =
-    ordering_then (nat_cmp (variant_number f) (variant_number g)) (nat_cmp (fault_direction f) (fault_direction g))
+    ordering_then (nat_cmp (variant_number f) (variant_number g))
+    (nat_cmp (fault_direction f) (fault_direction g))
 
 -- by vertex, then by variant, then by direction
 abbrev pub compare_faults : VertexFault → VertexFault → Ordering
 compare_faults f g =
-    ordering_then (compare_positions (position_of f.vertex) (position_of g.vertex)) (compare_local f.fault g.fault)
+    ordering_then (compare_positions (position_of f.vertex) (position_of g.vertex))
+    (compare_local f.fault g.fault)
 
 -- each fault stands before all later ones, so it is there once
 abbrev pub IsInOrder : List VertexFault → Type 0
@@ -91,14 +95,17 @@ maekawa_faults fan =
 abbrev pub is_small_sector : List Ray → ℕ → Bool
 is_small_sector fan k =
     nat_lt (sector_at fan k) (sector_at fan (k + length fan - 1))
-    && (nat_lt (sector_at fan k) (sector_at fan (k + 1)) && is_same_kind (around fan k).kind (around fan (k + 1)).kind)
+    && (nat_lt (sector_at fan k) (sector_at fan (k + 1))
+    && is_same_kind (around fan k).kind (around fan (k + 1)).kind)
 
 abbrev pub little_fault_at : List Ray → ℕ → List LocalFault
 little_fault_at fan k = if is_small_sector fan k then BigLittleBig (ray_in fan k).dir ∷ [] else []
 
 -- once around
 abbrev pub little_faults : List Ray → List LocalFault
-little_faults fan = if nat_lt (length fan) 4 then [] else flat_map (little_fault_at fan) (range_with_len 0 (length fan))
+little_faults fan =
+    if nat_lt (length fan) 4 then []
+    else flat_map (little_fault_at fan) (range_with_len 0 (length fan))
 
 abbrev pub fan_faults : List Ray → List LocalFault
 fan_faults fan = kawasaki_faults fan ++ maekawa_faults fan ++ little_faults fan
@@ -106,8 +113,11 @@ fan_faults fan = kawasaki_faults fan ++ maekawa_faults fan ++ little_faults fan
 abbrev pub vertex_fault : Point → LocalFault → VertexFault
 vertex_fault v fault = record { vertex = v; fault = fault }
 
+abbrev pub vertex_faults : Point → List LocalFault → List VertexFault
+vertex_faults v faults = map (vertex_fault v) faults
+
 abbrev pub faults_at : PatternView → Point → List VertexFault
-faults_at pattern v = map (vertex_fault v) (fan_faults (fan_of v pattern.pieces))
+faults_at pattern v = vertex_faults v (fan_faults (fan_of v pattern.pieces))
 
 unfoldable pub faults_of : PatternView → List VertexFault
 faults_of pattern = flat_map (faults_at pattern) (vertices_of pattern)

@@ -13,7 +13,8 @@ use Rattle.vertex_checks.specs.Fan.{ray_number, Leaves, IsFan, fan_of}
 abbrev pub VerticesAreInnerEnds : Type 0
 VerticesAreInnerEnds =
     (pattern : PatternView)
-    → IsTrue (is_rising (vertices_of pattern)) × ((v : Point) → Contains (vertices_of pattern) v ↔ IsInnerEnd pattern v)
+    → IsTrue (is_rising (vertices_of pattern))
+    × ((v : Point) → Contains (vertices_of pattern) v ↔ IsInnerEnd pattern v)
 
 -- two pieces that leave a point in one direction are one piece
 abbrev pub DirectionsDiffer : Type 0

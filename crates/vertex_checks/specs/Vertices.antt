@@ -28,10 +28,12 @@ is_inside Inside = true
 
 -- ascending points with one more, if it is strictly inside the sheet and not there yet
 abbrev pub with_inner : List Point → List Point → Point → List Point
-with_inner corners points v = if is_inside (place_of corners (position_of v)) then with_point points v else points
+with_inner corners points v =
+    if is_inside (place_of corners (position_of v)) then with_point points v else points
 
 abbrev pub with_inner_ends : List Point → List Point → Piece → List Point
-with_inner_ends corners points p = with_inner corners (with_inner corners points (lesser_end p.segment)) (greater_end p.segment)
+with_inner_ends corners points p =
+    with_inner corners (with_inner corners points (lesser_end p.segment)) (greater_end p.segment)
 
 -- the points with those ends of these pieces
 abbrev pub vertices_from : List Point → List Piece → List Point → List Point

@@ -1,9 +1,9 @@
 //! All faults of a pattern.
 
-ghost use Rattle.std.specs.Prelude.{◌≡◌, ◌<◌, ◌≤◌, ◌↔◌, ◌∷◌, ◌++◌, [], length, map, Contains, IfOk, OnOk};
+ghost use Rattle.std.specs.Prelude.{◌≡◌, ◌<◌, ◌≤◌, ◌↔◌, ◌∷◌, ◌++◌, [], length, Contains, IfOk, OnOk};
 ghost use Rattle.isometry_map.specs.LinearView.{linear_number};
 ghost use Rattle.vertex_checks.specs.Sectors.{is_same_kind, count_of_kind};
-ghost use Rattle.vertex_checks.specs.Faults.{IsFault, KawasakiIsByAngles, IsInOrder, comes_round, kawasaki_faults, maekawa_faults, fan_faults, vertex_fault, faults_at, faults_of};
+ghost use Rattle.vertex_checks.specs.Faults.{IsFault, KawasakiIsByAngles, IsInOrder, comes_round, kawasaki_faults, maekawa_faults, fan_faults, vertex_fault, vertex_faults, faults_at, faults_of};
 
 use crate::fans::{Ray, fan_at};
 use crate::faults::{LocalFault, VertexFault};
@@ -50,7 +50,7 @@ pub(crate) fn push_fault(
 }
 
 fn push_kawasaki(faults: &mut Vec<VertexFault>, v: &Point, fan: &[Ray]) -> Result<(), AllocError>
-    ensures { OnOk result (faults.new.items ≡ faults.old.items ++ map (vertex_fault v.now) (kawasaki_faults fan.now)) }
+    ensures { OnOk result (faults.new.items ≡ faults.old.items ++ vertex_faults v.now (kawasaki_faults fan.now)) }
 {
     if !comes_round(fan) {
         push_fault(faults, v, LocalFault::Kawasaki)?;
@@ -60,7 +60,7 @@ fn push_kawasaki(faults: &mut Vec<VertexFault>, v: &Point, fan: &[Ray]) -> Resul
 
 fn push_maekawa(faults: &mut Vec<VertexFault>, v: &Point, fan: &[Ray]) -> Result<(), AllocError>
     requires { length fan.now ≤ 2000 }
-    ensures { OnOk result (faults.new.items ≡ faults.old.items ++ map (vertex_fault v.now) (maekawa_faults fan.now)) }
+    ensures { OnOk result (faults.new.items ≡ faults.old.items ++ vertex_faults v.now (maekawa_faults fan.now)) }
 {
     let m = count_of_kind(Kind::Mountain, fan);
     let other = count_of_kind(Kind::Valley, fan);
@@ -76,7 +76,7 @@ pub(crate) fn push_fan(
     fan: &[Ray],
 ) -> Result<(), AllocError>
     requires { length fan.now ≤ 2000 }
-    ensures { OnOk result (faults.new.items ≡ faults.old.items ++ map (vertex_fault v.now) (fan_faults fan.now)) }
+    ensures { OnOk result (faults.new.items ≡ faults.old.items ++ vertex_faults v.now (fan_faults fan.now)) }
 {
     push_kawasaki(faults, v, fan)?;
     push_maekawa(faults, v, fan)?;
@@ -109,7 +109,7 @@ fn all_faults(alloc: Global, pattern: &Pattern) -> Result<Vec<VertexFault>, Allo
 /// All faults of a pattern: those of Kawasaki's and Maekawa's theorems and of the big-little-big lemma, at each vertex
 /// strictly inside the sheet. They stand by vertex, then in the order of the variants, then by direction.
 pub fn check(alloc: Global, pattern: &Pattern) -> Result<Vec<VertexFault>, AllocError>
-    ensures found { IfOk result (λ faults. (f : VertexFault) → Contains faults.items f ↔ IsFault pattern.now f) }
+    ensures found { IfOk result (λ list. (f : VertexFault) → Contains list.items f ↔ IsFault pattern.now f) }
     ensures angles { IfOk result (λ faults. KawasakiIsByAngles pattern.now faults.items) }
     ensures order { IfOk result (λ faults. IsInOrder faults.items) }
     ensures value { IfOk result (λ faults. faults.items ≡ faults_of pattern.now) }

@@ -1,8 +1,8 @@
 //! The big-little-big lemma: sectors smaller than both beside them.
 
-ghost use Rattle.std.specs.Prelude.{◌≡◌, ◌<◌, ◌≤◌, ◌++◌, length, map, OnOk};
+ghost use Rattle.std.specs.Prelude.{◌≡◌, ◌<◌, ◌≤◌, ◌++◌, length, OnOk};
 ghost use Rattle.vertex_checks.specs.Sectors.{sector, around, sector_at, is_same_kind};
-ghost use Rattle.vertex_checks.specs.Faults.{is_small_sector, little_fault_at, little_faults, vertex_fault};
+ghost use Rattle.vertex_checks.specs.Faults.{is_small_sector, little_fault_at, little_faults, vertex_faults};
 
 use crate::checking::push_fault;
 use crate::fans::Ray;
@@ -67,7 +67,7 @@ fn push_little_fault(
 ) -> Result<(), AllocError>
     requires inside { k < length fan.now }
     requires few { length fan.now ≤ 2000 }
-    ensures { OnOk result (faults.new.items ≡ faults.old.items ++ map (vertex_fault v.now) (little_fault_at fan.now k)) }
+    ensures { OnOk result (faults.new.items ≡ faults.old.items ++ vertex_faults v.now (little_fault_at fan.now k)) }
 {
     if is_small_sector(fan, k) {
         let direction = fan[k].dir;
@@ -83,7 +83,7 @@ pub(crate) fn push_little_faults(
     fan: &[Ray],
 ) -> Result<(), AllocError>
     requires { length fan.now ≤ 2000 }
-    ensures { OnOk result (faults.new.items ≡ faults.old.items ++ map (vertex_fault v.now) (little_faults fan.now)) }
+    ensures { OnOk result (faults.new.items ≡ faults.old.items ++ vertex_faults v.now (little_faults fan.now)) }
 {
     if fan.len() < 4 {
         return Ok(());

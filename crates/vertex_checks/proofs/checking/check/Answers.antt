@@ -1,6 +1,6 @@
-use Rattle.std.proofs.Common.{◌≡◌, ◌↔◌, List, length, sym, ap, subst, arith}
+use Rattle.std.proofs.Common.{◌↔◌, List, length, sym, ap, subst, arith}
 use Rattle.std.specs.Prelude.{Contains}
-use Rattle.vertex_checks.specs.Faults.{IsFault, KawasakiIsByAngles, IsInOrder, faults_of}
+use Rattle.vertex_checks.specs.Faults.{IsFault, KawasakiIsByAngles, IsInOrder}
 use Rattle.vertex_checks.specs.declared.faults.VertexFault.{VertexFault}
 use Rattle.vertex_checks.proofs.Lengths.{few_faults}
 use Rattle.vertex_checks.proofs.FaultLaws.{faults_are, by_angles}
