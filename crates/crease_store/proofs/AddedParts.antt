@@ -11,7 +11,7 @@ use Rattle.plane_geometry.specs.SegmentView.{stretch_of}
 use Rattle.plane_geometry.specs.Stretch.{is_between, is_end, is_on}
 use Rattle.plane_geometry.specs.SideLaws.{order_of}
 use Rattle.plane_geometry.specs.StretchLaws.{end_parts, from_end, to_end}
-use Rattle.plane_geometry.specs.CommonPoints.{between_parts, between_from_parts, touching_is}
+use Rattle.plane_geometry.specs.CommonPointLaws.{between_parts, between_from_parts, touching_is}
 use Rattle.plane_geometry.specs.SegmentLaws.{point_is}
 use Rattle.crease_model.specs.declared.Kind.{Kind}
 use Rattle.crease_model.specs.declared.Piece.{Piece}

@@ -6,7 +6,7 @@ use Rattle.plane_geometry.specs.declared.Segment.{Segment}
 use Rattle.plane_geometry.specs.Stretch.{MeetAtEnds, has_same_ends, is_end}
 use Rattle.plane_geometry.specs.SegmentView.{stretch_of, lesser_end, greater_end}
 use Rattle.plane_geometry.specs.SegmentLaws.{segment_is}
-use Rattle.plane_geometry.specs.CommonPoints.{meeting_is}
+use Rattle.plane_geometry.specs.CommonPointLaws.{meeting_is}
 use Rattle.crease_model.specs.declared.Piece.{Piece}
 use Rattle.crease_model.specs.View.{PatternView}
 use Rattle.crease_model.specs.Rules.{IsPattern, AllMeetAtEnds, is_ascending, is_crease, segments_of}

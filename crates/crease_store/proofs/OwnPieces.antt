@@ -7,7 +7,7 @@ use Rattle.plane_geometry.specs.Position.{Position}
 use Rattle.plane_geometry.specs.SegmentView.{stretch_of}
 use Rattle.plane_geometry.specs.Stretch.{Stretch, MeetAtEnds, is_between, is_end, is_on}
 use Rattle.plane_geometry.specs.StretchLaws.{turned_zero, end_parts, from_end, to_end}
-use Rattle.plane_geometry.specs.CommonPoints.{between_parts, between_no_end, end_same}
+use Rattle.plane_geometry.specs.CommonPointLaws.{between_parts, between_no_end, end_same}
 use Rattle.crease_model.specs.declared.Kind.{Kind}
 use Rattle.crease_model.specs.declared.Piece.{Piece}
 use Rattle.crease_model.specs.Rules.{AllMeetAtEnds}

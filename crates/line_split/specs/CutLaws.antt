@@ -11,7 +11,7 @@ use Rattle.plane_geometry.specs.Stretch.{Stretch, is_end, is_on, is_between, is_
 use Rattle.plane_geometry.specs.Common.{is_parallel, common_of}
 use Rattle.plane_geometry.specs.SideLaws.{order_of}
 use Rattle.plane_geometry.specs.StretchLaws.{turned_zero, on_parts, on_from_parts, end_parts, from_end, to_end}
-use Rattle.plane_geometry.specs.CommonPoints.{lies_same, end_same, touching_is}
+use Rattle.plane_geometry.specs.CommonPointLaws.{lies_same, end_same, touching_is}
 use Rattle.plane_geometry.specs.CommonLaws.{common_only}
 use Rattle.crease_model.specs.declared.Piece.{Piece}
 use Rattle.line_split.specs.Members.{Member, member, contained, any_member, member_any}

@@ -10,7 +10,7 @@ use Rattle.plane_geometry.specs.SegmentView.{stretch_of, lesser_end, greater_end
 use Rattle.plane_geometry.specs.Stretch.{is_touching}
 use Rattle.plane_geometry.specs.Common.{is_parallel, common_of}
 use Rattle.plane_geometry.specs.StretchLaws.{on_parts}
-use Rattle.plane_geometry.specs.CommonPoints.{touching_is}
+use Rattle.plane_geometry.specs.CommonPointLaws.{touching_is}
 use Rattle.plane_geometry.specs.CommonLaws.{common_some}
 use Rattle.crease_model.specs.declared.Piece.{Piece}
 use Rattle.line_split.specs.Members.{Member, member, contained}

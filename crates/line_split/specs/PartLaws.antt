@@ -13,7 +13,7 @@ use Rattle.plane_geometry.specs.Stretch.{is_end, is_on, is_between}
 use Rattle.plane_geometry.specs.DirectionLaws.{along_unique, along_from_parts}
 use Rattle.plane_geometry.specs.SideLaws.{order_self, side_from}
 use Rattle.plane_geometry.specs.StretchLaws.{before_is, before_then, then_before, side_self, ends_order, to_in_line, from_end, to_end}
-use Rattle.plane_geometry.specs.CommonPoints.{LiesBetween, between_parts, between_from_parts, line_through, dot_is_order}
+use Rattle.plane_geometry.specs.CommonPointLaws.{LiesBetween, between_parts, between_from_parts, line_through, dot_is_order}
 use Rattle.plane_geometry.specs.SegmentLaws.{segment_is, segment_of-ends}
 use Rattle.crease_model.specs.declared.Kind.{Kind}
 use Rattle.crease_model.specs.declared.Piece.{Piece}

@@ -1,5 +1,5 @@
 -- Each number has one canonical triple, and only one.
-use Rattle.std.proofs.Common.{◌≡◌, [], ◌∷◌, ℕ, zero, suc, ◌+◌, ◌-◌, ◌*◌, ◌/◌, ◌^◌, ◌%◌, ◌≤◌, inl, inr, ℤ, pos, negsuc, neg_ℤ, unsigned_abs, ◌*ℤ◌, refl, ap, subst, sym, ◌∙◌, arith, add-one}
+use Rattle.std.proofs.Common.{◌≡◌, [], ◌∷◌, ℕ, zero, suc, ◌+◌, ◌-◌, ◌*◌, ◌/◌, ◌^◌, ◌%◌, ◌≤◌, ◌⊎◌, inl, inr, ℤ, pos, negsuc, neg_ℤ, unsigned_abs, ◌*ℤ◌, refl, ap, subst, sym, ◌∙◌, arith, add-one}
 use Rattle.std.proofs.lemmas.Int.{unsigned_abs-mul, ints}
 use Rattle.std.proofs.lemmas.Nat.{pow_pos, pow-add}
 use Rattle.std.proofs.lemmas.Bool.{cases_lt, cases_eq}
@@ -136,3 +136,18 @@ reduction_from (suc k) a b =
 
 pub reduction_of : (x : Number) → Reduction x
 reduction_of x = reduction_from x.k x.a x.b
+
+-- ---- whether it is within the limits
+
+at_most_or_not : (m n : ℕ) → (m ≤ n) ⊎ ¬ (m ≤ n)
+at_most_or_not m n = elim (cases_lt n m) [ inl above ↦ inr (λ h. omega arith) | inr h ↦ inl h ]
+
+both_or_not : {P Q R : Type 0} → P ⊎ ¬ P → Q ⊎ ¬ Q → R ⊎ ¬ R → (P × Q × R) ⊎ ¬ (P × Q × R)
+both_or_not (inl p) (inl q) (inl r) = inl (p, q, r)
+both_or_not (inl p) (inl q) (inr r) = inr (λ h. r h.2)
+both_or_not (inl p) (inr q) r = inr (λ h. q h.1)
+both_or_not (inr p) q r = inr (λ h. p h.0)
+
+-- whether a triple is within the limits of a Surd
+pub within_or_not : (x : Number) → IsWithin 36 16 x ⊎ ¬ IsWithin 36 16 x
+within_or_not x = both_or_not (at_most_or_not (unsigned_abs x.a) (2 ^ 36)) (at_most_or_not (unsigned_abs x.b) (2 ^ 36)) (at_most_or_not x.k 16)

@@ -4,16 +4,18 @@ use Rattle.std.proofs.lemmas.Bool.{false≢true, and_parts, or_cases, and_from, 
 use Rattle.surd_number.specs.declared.Sgn.{Sgn}
 use Rattle.surd_number.specs.declared.Sgn.TheVariants.{Neg, Zero, Pos}
 use Rattle.surd_number.specs.Number.{Number, IsSame, whole, sum_of, difference_of, product_of, negative_of, half_of, sign_of}
-use Rattle.surd_number.specs.RingTool.{◌⊕◌, ◌⊝◌, ◌⊗◌, ⊖◌, con, halved, v0, v1, v2, v3, v4, v5, v6, v7, v8}
+use Rattle.surd_number.specs.RingTool.{◌⊕◌, ◌⊝◌, ◌⊗◌, ⊖◌, con, halved, v0, v1, v2, v3, v4, v5}
 use Rattle.surd_number.specs.NumberLaws.{number_ring, number_ring_from}
 use Rattle.std.specs.Ordering.{is_lt}
 use Rattle.plane_geometry.specs.Position.{Position, vector_of, cross_of, dot_of, compare_positions, is_same_position}
-use Rattle.plane_geometry.specs.Direction.{direction_vector, side_of, is_positive, is_negative, is_zero}
+use Rattle.plane_geometry.specs.Direction.{direction_vector, side_of, is_positive, is_negative, is_zero, is_along}
 use Rattle.plane_geometry.specs.Stored.{IsStretch}
 use Rattle.plane_geometry.specs.Stretch.{Stretch, is_apart, is_between, is_end, is_on, is_in_line, is_parted, is_crossing, is_touching, ends_at_ends, has_same_ends, meets_at_ends, is_overlapping, ShareAPoint, MeetAtEnds, ShareTwoPoints}
 use Rattle.surd_number.specs.SignLaws.{opposite_sign, times_sign, sign_of-same, sign_of-negative}
-use Rattle.plane_geometry.specs.SideLaws.{then_sign, may_sum, lex_sign, order_of, order_self, order_turned, order_chain, side_from, side_same, square_sign, along_lex, along_cross, turn_of, product_by_zero, product_by_pos}
+use Rattle.plane_geometry.specs.SideLaws.{then_sign, may_sum, lex_sign, order_of, order_self, order_turned, order_chain, side_from, side_same, square_sign, along_lex, along_cross, turn_sign, product_by_zero, product_by_pos}
 use Rattle.plane_geometry.specs.CrossLaws.{turn_inverse}
+use Rattle.plane_geometry.specs.Common.{meeting_point}
+use Rattle.plane_geometry.specs.MeetLaws.{side_from_offset, meets_first, meets_second}
 use Rattle.plane_geometry.specs.StretchLaws.{LiesOn, before_is, same_is, positive_is, zero_is, before_then, then_before, order_from, order_to, turned_zero, side_to, side_self, ends_order, to_in_line, along_sign, on_parts, on_from_parts, end_parts, end_from, end_to}
 
 -- ---- points on one line
@@ -34,13 +36,19 @@ dot_is_order s p q h e =
     ∙ ap (times_sign (sign_of (dot_of (direction_vector s.dir) (vector_of p q)))) (forward s h)
     ∙ product_by_pos (sign_of (dot_of (direction_vector s.dir) (vector_of p q))))
 
+-- from one point of its line to a later one it goes in the direction of a stretch
+pub along_line : (s : Stretch) (p q : Position) → IsStretch s → side_of s.from s.dir p ≡ Zero → side_of s.from s.dir q ≡ Zero → order_of p q ≡ Pos → is_along s.dir p q ≡ true
+along_line s p q h e f up =
+    let side = line_through s p q e f in
+    and_from _ _ (ap is_zero side) (ap is_positive (dot_is_order s p q h side ∙ up))
+
 -- along a stretch, one goes to the side of another direction to which it turns from that
-pub side_on_line : (s : Stretch) (p q : Position) (m : ℕ) → IsStretch s → side_of s.from s.dir p ≡ Zero → side_of s.from s.dir q ≡ Zero → side_of p m q ≡ times_sign (order_of p q) (turn_of m s.dir)
+pub side_on_line : (s : Stretch) (p q : Position) (m : ℕ) → IsStretch s → side_of s.from s.dir p ≡ Zero → side_of s.from s.dir q ≡ Zero → side_of p m q ≡ times_sign (order_of p q) (turn_sign m s.dir)
 side_on_line s p q m h e f =
     along_cross (direction_vector s.dir) (vector_of p q) (square_sign s.dir) (line_through s p q e f) (direction_vector m)
-    ∙ ap (λ t. times_sign t (turn_of m s.dir)) (dot_is_order s p q h (line_through s p q e f))
+    ∙ ap (λ t. times_sign t (turn_sign m s.dir)) (dot_is_order s p q h (line_through s p q e f))
 
-pub turn_turned : (m n : ℕ) → turn_of n m ≡ opposite_sign (turn_of m n)
+pub turn_turned : (m n : ℕ) → turn_sign n m ≡ opposite_sign (turn_sign m n)
 turn_turned m n =
     let d = direction_vector m in
     let e = direction_vector n in
@@ -67,12 +75,12 @@ turned_neg : (p q : Position) → order_of p q ≡ Neg → order_of q p ≡ Pos
 turned_neg p q e = order_turned p q ∙ ap opposite_sign e
 
 -- a line in direction m through a point strictly between the ends parts them
-parted_at : (s : Stretch) (c p : Position) (m : ℕ) → IsStretch s → turn_of m s.dir ≢ Zero → side_of c m p ≡ Zero → side_of s.from s.dir p ≡ Zero → order_of s.from p ≡ Pos → order_of p s.to ≡ Pos → ((is_positive (side_of c m s.from) && is_negative (side_of c m s.to)) || (is_negative (side_of c m s.from) && is_positive (side_of c m s.to))) ≡ true
+parted_at : (s : Stretch) (c p : Position) (m : ℕ) → IsStretch s → turn_sign m s.dir ≢ Zero → side_of c m p ≡ Zero → side_of s.from s.dir p ≡ Zero → order_of s.from p ≡ Pos → order_of p s.to ≡ Pos → ((is_positive (side_of c m s.from) && is_negative (side_of c m s.to)) || (is_negative (side_of c m s.from) && is_positive (side_of c m s.to))) ≡ true
 parted_at s c p m h n on_other in_line after before =
     ap₂ (λ (a b : Sgn). (is_positive a && is_negative b) || (is_negative a && is_positive b))
-    (side_from c m p s.from on_other ∙ side_on_line s p s.from m h in_line (from_in_line s) ∙ ap (λ t. times_sign t (turn_of m s.dir)) (turned_pos s.from p after))
-    (side_from c m p s.to on_other ∙ side_on_line s p s.to m h in_line (to_in_line s h) ∙ ap (λ t. times_sign t (turn_of m s.dir)) before)
-    ∙ parted_table (turn_of m s.dir) n
+    (side_from c m p s.from on_other ∙ side_on_line s p s.from m h in_line (from_in_line s) ∙ ap (λ t. times_sign t (turn_sign m s.dir)) (turned_pos s.from p after))
+    (side_from c m p s.to on_other ∙ side_on_line s p s.to m h in_line (to_in_line s h) ∙ ap (λ t. times_sign t (turn_sign m s.dir)) before)
+    ∙ parted_table (turn_sign m s.dir) n
 
 between_table : (x y t : Sgn) → may_sum (opposite_sign x) y Pos ≡ true → ((is_positive (times_sign x t) && is_negative (times_sign y t)) || (is_negative (times_sign x t) && is_positive (times_sign y t))) ≡ true → (x ≡ Neg) × (y ≡ Pos)
 between_table Neg Pos t e f = (refl, refl)
@@ -95,7 +103,7 @@ between_parted s c p m h on_other in_line parted =
     let a = side_from c m p s.from on_other ∙ side_on_line s p s.from m h in_line (from_in_line s) in
     let b = side_from c m p s.to on_other ∙ side_on_line s p s.to m h in_line (to_in_line s h) in
     let chain = order_chain s.from p s.to in
-    let k = between_table (order_of p s.from) (order_of p s.to) (turn_of m s.dir)
+    let k = between_table (order_of p s.from) (order_of p s.to) (turn_sign m s.dir)
     (ap₂ (λ (x y : Sgn). may_sum x (order_of p s.to) y) (sym (order_turned p s.from)) (sym (ends_order s h)) ∙ chain)
     (sym (ap₂ (λ (a b : Sgn). (is_positive a && is_negative b) || (is_negative a && is_positive b)) a b) ∙ parted) in
     (turned_neg p s.from k.0, k.1)
@@ -110,36 +118,15 @@ parted_turns_table Pos Zero t e f = false≢true e
 parted_turns_table Pos Pos t e f = false≢true e
 
 -- a line that parts the ends of a stretch has another direction
-parted_turns : (s : Stretch) (c : Position) (m : ℕ) → IsStretch s → ((is_positive (side_of c m s.from) && is_negative (side_of c m s.to)) || (is_negative (side_of c m s.from) && is_positive (side_of c m s.to))) ≡ true → turn_of m s.dir ≢ Zero
+parted_turns : (s : Stretch) (c : Position) (m : ℕ) → IsStretch s → ((is_positive (side_of c m s.from) && is_negative (side_of c m s.to)) || (is_negative (side_of c m s.from) && is_positive (side_of c m s.to))) ≡ true → turn_sign m s.dir ≢ Zero
 parted_turns s c m h parted e =
     parted_turns_table (side_of c m s.from) (side_of c m s.to) Zero parted
     (sym (side_to c m s.from s.to (side_on_line s s.from s.to m h (from_in_line s) (to_in_line s h) ∙ ap (times_sign (order_of s.from s.to)) e ∙ product_by_zero (order_of s.from s.to))))
 
--- ---- the common point of two lines
-
--- the point where the line through a in direction d meets the line through c in direction e, by the inverse i of the
--- cross product of e and d
-abbrev pub common_point : Position → Position → Position → Position → Number → Position
-common_point a d c e i = record { x = sum_of a.x (product_of (product_of i (cross_of e (vector_of a c))) d.x); y = sum_of a.y (product_of (product_of i (cross_of e (vector_of a c))) d.y) }
-
-common_in_first : (a d c e : Position) (i : Number) → sign_of (cross_of d (vector_of a (common_point a d c e i))) ≡ Zero
-common_in_first a d c e i =
-    sign_of-same (cross_of d (vector_of a (common_point a d c e i))) (whole (pos 0))
-    (number_ring (a.x ∷ a.y ∷ d.x ∷ d.y ∷ product_of i (cross_of e (vector_of a c)) ∷ [])
-    (v2 ⊗ ((v1 ⊕ v4 ⊗ v3) ⊝ v1) ⊝ v3 ⊗ ((v0 ⊕ v4 ⊗ v2) ⊝ v0)) (con (whole (pos 0))) refl)
-
-common_in_second : (a d c e : Position) (i : Number) → IsSame (product_of i (cross_of e d)) (whole (pos 1)) → sign_of (cross_of e (vector_of c (common_point a d c e i))) ≡ Zero
-common_in_second a d c e i h =
-    sign_of-same (cross_of e (vector_of c (common_point a d c e i))) (whole (pos 0))
-    (number_ring_from (a.x ∷ a.y ∷ d.x ∷ d.y ∷ c.x ∷ c.y ∷ e.x ∷ e.y ∷ i ∷ [])
-    (v8 ⊗ (v6 ⊗ v3 ⊝ v7 ⊗ v2)) (con (whole (pos 1))) (v6 ⊗ (v5 ⊝ v1) ⊝ v7 ⊗ (v4 ⊝ v0))
-    (v6 ⊗ ((v1 ⊕ (v8 ⊗ (v6 ⊗ (v5 ⊝ v1) ⊝ v7 ⊗ (v4 ⊝ v0))) ⊗ v3) ⊝ v5) ⊝ v7 ⊗ ((v0 ⊕ (v8 ⊗ (v6 ⊗ (v5 ⊝ v1) ⊝ v7 ⊗ (v4 ⊝ v0))) ⊗ v2) ⊝ v4))
-    (con (whole (pos 0))) refl h)
-
 -- ---- stretches on one line
 
 -- where two stretches in parallel directions have a point in common, each point of the line of one is on that of the other
-same_line : (s u : Stretch) (p q : Position) → IsStretch s → turn_of u.dir s.dir ≡ Zero → side_of s.from s.dir p ≡ Zero → side_of u.from u.dir p ≡ Zero → side_of s.from s.dir q ≡ Zero → side_of u.from u.dir q ≡ Zero
+same_line : (s u : Stretch) (p q : Position) → IsStretch s → turn_sign u.dir s.dir ≡ Zero → side_of s.from s.dir p ≡ Zero → side_of u.from u.dir p ≡ Zero → side_of s.from s.dir q ≡ Zero → side_of u.from u.dir q ≡ Zero
 same_line s u p q h parallel in_s in_u q_in_s =
     side_from u.from u.dir p q in_u ∙ side_on_line s p q u.dir h in_s q_in_s ∙ ap (times_sign (order_of p q)) parallel ∙ product_by_zero (order_of p q)
 
@@ -215,7 +202,7 @@ at_or_between p s l = go (order_of s.from p) (order_of p s.to) refl refl
 -- ---- crossing
 
 -- where two stretches of different directions have a point strictly between the ends of both, they cross
-crossing_at : (s u : Stretch) (p : Position) → IsStretch s → IsStretch u → turn_of u.dir s.dir ≢ Zero → LiesBetween p s → LiesBetween p u → is_crossing s u ≡ true
+crossing_at : (s u : Stretch) (p : Position) → IsStretch s → IsStretch u → turn_sign u.dir s.dir ≢ Zero → LiesBetween p s → LiesBetween p u → is_crossing s u ≡ true
 crossing_at s u p h k turns in_s in_u =
     and_from _ _ (parted_at u s.from p s.dir k (λ e. turns (turn_turned s.dir u.dir ∙ ap opposite_sign e)) in_s.in_line in_u.in_line in_u.after_from in_u.before_to)
     (parted_at s u.from p u.dir h turns in_u.in_line in_s.in_line in_s.after_from in_s.before_to)
@@ -223,7 +210,7 @@ crossing_at s u p h k turns in_s in_u =
 -- ---- sharing a point
 
 -- on one line, the later of the lesser ends is on both
-later_from : (s u : Stretch) (p : Position) → IsStretch s → IsStretch u → turn_of u.dir s.dir ≡ Zero → LiesBetween p s → LiesBetween p u → (LiesOn s.from u) ⊎ (LiesOn u.from s)
+later_from : (s u : Stretch) (p : Position) → IsStretch s → IsStretch u → turn_sign u.dir s.dir ≡ Zero → LiesBetween p s → LiesBetween p u → (LiesOn s.from u) ⊎ (LiesOn u.from s)
 later_from s u p h k parallel in_s in_u = go (order_of s.from u.from) refl
   where
     s_in_u : side_of u.from u.dir s.from ≡ Zero
@@ -267,17 +254,17 @@ touching_at s u p h k l m =
       | between b ↦ elim (at_or_between p u m) [
         | at_from e ↦ touching_other_from s u (on_from_parts u.from s h (lies_same p u.from s (turned_zero u.from p e) l))
         | at_to e ↦ touching_other_to s u (on_from_parts u.to s h (lies_same p u.to s e l))
-        | between c ↦ go b c (turn_of u.dir s.dir) refl
+        | between c ↦ go b c (turn_sign u.dir s.dir) refl
       ]
     ]
   where
-    by_turn : (t : Sgn) → t ≢ Zero → turn_of u.dir s.dir ≡ t → turn_of u.dir s.dir ≢ Zero
+    by_turn : (t : Sgn) → t ≢ Zero → turn_sign u.dir s.dir ≡ t → turn_sign u.dir s.dir ≢ Zero
     by_turn t n e f = n (sym e ∙ f)
 
-    crossing : LiesBetween p s → LiesBetween p u → turn_of u.dir s.dir ≢ Zero → is_touching s u ≡ true
+    crossing : LiesBetween p s → LiesBetween p u → turn_sign u.dir s.dir ≢ Zero → is_touching s u ≡ true
     crossing b c n = touching_crossing s u (crossing_at s u p h k n b c)
 
-    go : LiesBetween p s → LiesBetween p u → (t : Sgn) → turn_of u.dir s.dir ≡ t → is_touching s u ≡ true
+    go : LiesBetween p s → LiesBetween p u → (t : Sgn) → turn_sign u.dir s.dir ≡ t → is_touching s u ≡ true
     go b c Neg e = crossing b c (λ f. let g : Neg ≡ Zero = sym e ∙ f in cc)
     go b c Pos e = crossing b c (λ f. let g : Pos ≡ Zero = sym e ∙ f in cc)
     go b c Zero e =
@@ -289,10 +276,16 @@ crossing_point s u h k e =
     let parted = and_parts (is_parted u.from u.to s) (is_parted s.from s.to u) e in
     let d = direction_vector s.dir in
     let d' = direction_vector u.dir in
-    let inverse = turn_inverse u.dir s.dir (parted_turns s u.from u.dir h parted.1) in
-    let p = common_point s.from d u.from d' inverse.0 in
-    let in_s : side_of s.from s.dir p ≡ Zero = common_in_first s.from d u.from d' inverse.0 in
-    let in_u : side_of u.from u.dir p ≡ Zero = common_in_second s.from d u.from d' inverse.0 inverse.1 in
+    let cross = cross_of d d' in
+    let inverse = turn_inverse s.dir u.dir (parted_turns u s.from s.dir k parted.0) in
+    let i = inverse.0 in
+    let one_over : IsSame (product_of cross i) (whole (pos 1)) =
+    number_ring_from (cross ∷ i ∷ []) (v1 ⊗ v0) (con (whole (pos 1))) (con (whole (pos 1))) (v0 ⊗ v1) (con (whole (pos 1))) refl inverse.1 in
+    let p = meeting_point d (cross_of d s.from) d' (cross_of d' u.from) i in
+    let in_s : side_of s.from s.dir p ≡ Zero =
+    side_from_offset s.from s.dir p (meets_first d (cross_of d s.from) d' (cross_of d' u.from) i one_over) in
+    let in_u : side_of u.from u.dir p ≡ Zero =
+    side_from_offset u.from u.dir p (meets_second d (cross_of d s.from) d' (cross_of d' u.from) i one_over) in
     let b = between_parted s u.from p u.dir h in_u in_s parted.1 in
     let c = between_parted u s.from p s.dir k in_s in_u parted.0 in
     (p, record { in_line = in_s; after_from = b.0; before_to = b.1 }, record { in_line = in_u; after_from = c.0; before_to = c.1 })
@@ -391,7 +384,7 @@ no_inner_from s u h ends b = between_no_end u.from s b ((ends_from u s ends).0 (
 no_inner_to : (s u : Stretch) → IsStretch s → ends_at_ends u s ≡ true → LiesBetween u.to s → ⊥
 no_inner_to s u h ends b = between_no_end u.to s b ((ends_from u s ends).1 (on_from_parts u.to s h (between_lies u.to s b)))
 
-module _ (s u : Stretch) (p : Position) (h : IsStretch s) (k : IsStretch u) (parallel : turn_of u.dir s.dir ≡ Zero) (in_s : LiesBetween p s) (in_u : LiesBetween p u) where
+module _ (s u : Stretch) (p : Position) (h : IsStretch s) (k : IsStretch u) (parallel : turn_sign u.dir s.dir ≡ Zero) (in_s : LiesBetween p s) (in_u : LiesBetween p u) where
   s_line : (q : Position) → side_of s.from s.dir q ≡ Zero → side_of u.from u.dir q ≡ Zero
   s_line q e = same_line s u p q h parallel in_s.in_line in_u.in_line e
 
@@ -428,7 +421,7 @@ module _ (s u : Stretch) (h : IsStretch s) (k : IsStretch u) where
         | between b ↦ elim (at_or_between p u m) [
           | at_from e ↦ by_u (end_from p u e)
           | at_to e ↦ by_u (end_to p u e)
-          | between c ↦ absurd (by_turn b c (turn_of u.dir s.dir) refl)
+          | between c ↦ absurd (by_turn b c (turn_sign u.dir s.dir) refl)
         ]
       ]
     where
@@ -438,10 +431,10 @@ module _ (s u : Stretch) (h : IsStretch s) (k : IsStretch u) where
       by_u : is_end p u ≡ true → (is_end p s ≡ true) × (is_end p u ≡ true)
       by_u e = (end_of_both u s p h ends_u e l, e)
 
-      crossing : LiesBetween p s → LiesBetween p u → turn_of u.dir s.dir ≢ Zero → ⊥
+      crossing : LiesBetween p s → LiesBetween p u → turn_sign u.dir s.dir ≢ Zero → ⊥
       crossing b c n = both_ways (is_crossing s u) no_crossing (crossing_at s u p h k n b c)
 
-      by_turn : LiesBetween p s → LiesBetween p u → (t : Sgn) → turn_of u.dir s.dir ≡ t → ⊥
+      by_turn : LiesBetween p s → LiesBetween p u → (t : Sgn) → turn_sign u.dir s.dir ≡ t → ⊥
       by_turn b c Neg e = crossing b c (λ f. let g : Neg ≡ Zero = sym e ∙ f in cc)
       by_turn b c Zero e = no_common_inner s u p h k e b c differ ends_s ends_u
       by_turn b c Pos e = crossing b c (λ f. let g : Pos ≡ Zero = sym e ∙ f in cc)
@@ -516,8 +509,8 @@ module _ (s u : Stretch) (h : IsStretch s) (k : IsStretch u) where
   module _ (from_in : side_of s.from s.dir u.from ≡ Zero) (to_in : side_of s.from s.dir u.to ≡ Zero) (s_before : order_of s.from u.to ≡ Pos) (u_before : order_of u.from s.to ≡ Pos) where
     all_in : (q : Position) → side_of s.from s.dir q ≡ Zero → side_of u.from u.dir q ≡ Zero
     all_in q e =
-        let turned : turn_of s.dir u.dir ≡ Zero =
-        sym (ap (λ t. times_sign t (turn_of s.dir u.dir)) (ends_order u k)) ∙ sym (side_on_line u u.from u.to s.dir k (from_in_line u) (to_in_line u k)) ∙ line_through s u.from u.to from_in to_in in
+        let turned : turn_sign s.dir u.dir ≡ Zero =
+        sym (ap (λ t. times_sign t (turn_sign s.dir u.dir)) (ends_order u k)) ∙ sym (side_on_line u u.from u.to s.dir k (from_in_line u) (to_in_line u k)) ∙ line_through s u.from u.to from_in to_in in
         same_line s u u.from q h (turn_turned s.dir u.dir ∙ ap opposite_sign turned) from_in (from_in_line u) e
 
     -- the later of the lesser ends
@@ -549,9 +542,9 @@ module _ (s u : Stretch) (h : IsStretch s) (k : IsStretch u) where
 
   overlap_from : (p q : Position) → order_of p q ≡ Pos → LiesOn p s → LiesOn p u → LiesOn q s → LiesOn q u → is_overlapping s u ≡ true
   overlap_from p q e l m l' m' =
-      let parallel : turn_of u.dir s.dir ≡ Zero =
-      sym (ap (λ t. times_sign t (turn_of u.dir s.dir)) e) ∙ sym (side_on_line s p q u.dir h l.in_line l'.in_line) ∙ line_through u p q m.in_line m'.in_line in
-      let turned : turn_of s.dir u.dir ≡ Zero = turn_turned u.dir s.dir ∙ ap opposite_sign parallel in
+      let parallel : turn_sign u.dir s.dir ≡ Zero =
+      sym (ap (λ t. times_sign t (turn_sign u.dir s.dir)) e) ∙ sym (side_on_line s p q u.dir h l.in_line l'.in_line) ∙ line_through u p q m.in_line m'.in_line in
+      let turned : turn_sign s.dir u.dir ≡ Zero = turn_turned u.dir s.dir ∙ ap opposite_sign parallel in
       and_from _ _
       (and_from _ _ (ap is_zero (same_line u s p u.from k turned m.in_line l.in_line (from_in_line u))) (ap is_zero (same_line u s p u.to k turned m.in_line l.in_line (to_in_line u k))))
       (and_from _ _

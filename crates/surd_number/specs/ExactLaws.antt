@@ -1,38 +1,16 @@
--- The Surd that has a number's value, as a function of the number.
-use Rattle.std.specs.Prelude.{Result, Ok, Err, Option, Some, None}
+-- The Surd that has a number's value, as a function of the number, is what an exact result gives.
+use Rattle.std.specs.Prelude.{Result, Ok, Err, Some, None}
 use Rattle.std.specs.Result.{result_ok}
-use Rattle.std.proofs.Common.{◌≡◌, ℕ, ◌≤◌, ◌^◌, ◌⊎◌, inl, inr, unsigned_abs, refl, ap, subst, arith}
-use Rattle.std.proofs.lemmas.Bool.{cases_lt}
+use Rattle.std.proofs.Common.{◌≡◌, ◌⊎◌, inl, inr, refl, ap, subst}
 use Rattle.surd_number.specs.declared.Surd.{Surd}
 use Rattle.surd_number.specs.declared.OutOfRange.{OutOfRange}
 use Rattle.surd_number.specs.Number.{Number, IsWithin}
 use Rattle.surd_number.specs.NumberLaws.{IsSame-refl, IsSame-sym, IsSame-trans}
 use Rattle.surd_number.specs.Stored.{IsSurd}
-use Rattle.surd_number.specs.Canonical.{Reduction, reduction_of, stored_from_surd}
+use Rattle.surd_number.specs.CanonicalLaws.{Reduction, reduction_of, within_or_not, stored_from_surd}
 use Rattle.surd_number.specs.Value.{number_of}
 use Rattle.surd_number.specs.SurdLaws.{surd_is}
-use Rattle.surd_number.specs.Exact.{IsSurdOf, IsExactly}
-
-at_most_or_not : (m n : ℕ) → (m ≤ n) ⊎ ¬ (m ≤ n)
-at_most_or_not m n = elim (cases_lt n m) [ inl above ↦ inr (λ h. omega arith) | inr h ↦ inl h ]
-
-both_or_not : {P Q R : Type 0} → P ⊎ ¬ P → Q ⊎ ¬ Q → R ⊎ ¬ R → (P × Q × R) ⊎ ¬ (P × Q × R)
-both_or_not (inl p) (inl q) (inl r) = inl (p, q, r)
-both_or_not (inl p) (inl q) (inr r) = inr (λ h. r h.2)
-both_or_not (inl p) (inr q) r = inr (λ h. q h.1)
-both_or_not (inr p) q r = inr (λ h. p h.0)
-
-within_or_not : (x : Number) → IsWithin 36 16 x ⊎ ¬ IsWithin 36 16 x
-within_or_not x = both_or_not (at_most_or_not (unsigned_abs x.a) (2 ^ 36)) (at_most_or_not (unsigned_abs x.b) (2 ^ 36)) (at_most_or_not x.k 16)
-
--- the canonical triple of x as a Surd, where it is within the limits
-surd_within : (x : Number) (r : Reduction x) → IsWithin 36 16 r.form ⊎ ¬ IsWithin 36 16 r.form → Option Surd
-surd_within x r (inl h) = Some (record { a = r.form.a; b = r.form.b; k = r.form.k; stored = (r.least, h) })
-surd_within x r (inr h) = None
-
--- the Surd of the value x, where there is one
-pub surd_of : Number → Option Surd
-surd_of x = surd_within x (reduction_of x) (within_or_not (reduction_of x).form)
+use Rattle.surd_number.specs.Exact.{IsSurdOf, IsExactly, surd_within, surd_of}
 
 surd_within-is : (x : Number) (s : Surd) → IsSurdOf s x → (r : Reduction x) (d : IsWithin 36 16 r.form ⊎ ¬ IsWithin 36 16 r.form) → surd_within x r d ≡ Some s
 unfolding surd_within

@@ -4,20 +4,32 @@ use Rattle.std.proofs.Common.{◌≡◌, [], ◌∷◌, ℕ, zero, suc, ◌+◌,
 use Rattle.std.proofs.lemmas.Int.{ints, unsigned_abs-mul}
 use Rattle.std.proofs.lemmas.Nat.{mul-le, pow_pos}
 use Rattle.std.proofs.Math.Nat.{pow-le-pow_right, le_of_mul-le-mul_right}
+use Rattle.std.proofs.Math.Bridge.{le_prop}
+use mathlib.Core.HLevel.{is_prop→PathP}
+use lib.IntN.{ℤ_set}
 use Rattle.surd_number.specs.RingTool.{◌⊕◌, ◌⊗◌, v0, v1, v2}
 use Rattle.surd_number.specs.IntRing.{int_ring}
-use Rattle.surd_number.specs.NumberLaws.{IsSame-refl, IsSame-sym, IsSame-trans, sum_of-same, negative_of-same, product_of-same, scaled-same}
-use Rattle.surd_number.specs.Number.{Number, power, IsSame, IsCanonical, IsWithin, sum_of, negative_of, difference_of, product_of, unit_of, tangent, half_root}
+use Rattle.surd_number.specs.NumberLaws.{IsSame-refl, IsSame-sym, IsSame-trans, sum_of-same, negative_of-same, product_of-same, scaled-same, aligned-same}
+use Rattle.surd_number.specs.Number.{Number, power, IsSame, IsCanonical, IsWithin, FitsOver, sum_of, negative_of, difference_of, product_of, unit_of, tangent, half_root}
 use Rattle.surd_number.specs.Stored.{IsStored, IsStoredWide, IsSurd, IsWide}
-use Rattle.surd_number.specs.Canonical.{unsigned_abs-neg, reduction_of}
+use Rattle.surd_number.specs.CanonicalLaws.{unsigned_abs-neg, reduction_of}
 
--- over 2^places, x has whole numerators of at most `most` in absolute value
-pub record FitsOver (most places : ℕ) (x : Number) : Type 0 where
-  pub a : ℤ
-  pub b : ℤ
-  pub same : IsSame x (record { a = a; b = b; k = places })
-  pub a_fits : unsigned_abs a ≤ most
-  pub b_fits : unsigned_abs b ≤ most
+same_prop : (x y : Number) → IsProp (IsSame x y)
+same_prop x y = hlevel ℤ_set
+
+-- a number has one such form at most
+pub fits_prop : (most places : ℕ) (x : Number) → IsProp (FitsOver most places x)
+fits_prop most places x f g =
+    let form_f : Number = record { a = f.a; b = f.b; k = places } in
+    let form_g : Number = record { a = g.a; b = g.b; k = places } in
+    let e = aligned-same form_f form_g refl (IsSame-trans form_f x form_g (IsSame-sym x form_f f.same) g.same) in
+    λ i. record {
+      a = e.0 i;
+      b = e.1 i;
+      same = is_prop→PathP (λ j. IsSame x (record { a = e.0 j; b = e.1 j; k = places })) (λ j. same_prop x (record { a = e.0 j; b = e.1 j; k = places })) f.same g.same i;
+      a_fits = is_prop→PathP (λ j. unsigned_abs (e.0 j) ≤ most) (λ j. le_prop) f.a_fits g.a_fits i;
+      b_fits = is_prop→PathP (λ j. unsigned_abs (e.1 j) ≤ most) (λ j. le_prop) f.b_fits g.b_fits i;
+    }
 
 -- ---- the same number, a greater bound, more places
 
