@@ -1,3 +1,4 @@
 pub mod Linear
 pub mod Matrix
+pub mod LinearView
 pub mod Laws

@@ -1,8 +1,9 @@
 -- The matrices of linear parts.
 use Rattle.std.specs.Prelude.{ℕ, ◌+◌, ◌%◌, List, [], ◌∷◌, slice_index_or, if◌then◌else◌}
 use Rattle.surd_number.specs.Number.{Number, IsSame, half_root, sum_of, difference_of, product_of, negative_of}
-use Rattle.plane_geometry.specs.Position.{Position}
-use Rattle.plane_geometry.specs.Direction.{one, nought}
+use Rattle.plane_geometry.specs.Position.{Position, opposite_of}
+use Rattle.plane_geometry.specs.Direction.{one, nought, direction_vector}
+use Rattle.plane_geometry.specs.Multiple.{IsSameVector}
 use Rattle.isometry_map.specs.Linear.{is_reflection}
 
 -- by rows
@@ -64,3 +65,11 @@ pub record IsSameMatrix (m n : Matrix) : Type 0 where
   pub xy : IsSame m.xy n.xy
   pub yx : IsSame m.yx n.yx
   pub yy : IsSame m.yy n.yy
+
+-- the reflection in the line of direction n through the origin: that direction stays, and the one at a right angle is
+-- turned round
+abbrev pub IsMirrorOf : ℕ → Matrix → Type 0
+IsMirrorOf n m =
+    IsSameVector (image_of m (direction_vector n)) (direction_vector n)
+    × IsSameVector (image_of m (normal_of (direction_vector n)))
+    (opposite_of (normal_of (direction_vector n)))

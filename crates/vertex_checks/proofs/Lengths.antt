@@ -1,7 +1,10 @@
 -- How many faults a pattern has at most.
-use Rattle.std.proofs.Common.{◌≡◌, ℕ, ◌+◌, ◌*◌, ◌^◌, ◌≤◌, ◌<◌, Bool, true, false, cond, List, [], ◌∷◌, ◌++◌, length, take, drop, map, sym, ap, ◌∙◌, arith}
+use Rattle.std.proofs.Common.{ℕ, ◌+◌, ◌*◌, ◌^◌, ◌≤◌, ◌<◌, true, false, cond, List, [], ◌∷◌, ◌++◌, length, flat_map, arith}
 use Rattle.std.specs.Prelude.{Option, None, Some, nat_lt}
-use Rattle.std.proofs.lemmas.List.{length-append, length-map, take-append-drop}
+use Rattle.std.specs.List.{range_with_len}
+use Rattle.std.proofs.lemmas.List.{length-append, length-map}
+use Rattle.std.proofs.lemmas.List.FromFn.{length-range_with_len}
+use Rattle.crease_model.specs.declared.Kind.TheVariants.{Mountain, Valley}
 use Rattle.plane_geometry.specs.declared.Point.{Point}
 use Rattle.plane_geometry.specs.Position.{position_of}
 use Rattle.plane_geometry.specs.SegmentView.{lesser_end, greater_end}
@@ -12,11 +15,11 @@ use Rattle.crease_model.specs.Rules.{IsPattern}
 use Rattle.line_split.specs.Points.{with_point}
 use Rattle.line_split.specs.LengthLaws.{with_point_length, flat_map_length}
 use Rattle.vertex_checks.specs.declared.fans.Ray.{Ray}
-use Rattle.vertex_checks.specs.declared.sectors.Window.{Window}
 use Rattle.vertex_checks.specs.declared.faults.LocalFault.TheVariants.{Kawasaki, Maekawa, BigLittleBig}
 use Rattle.vertex_checks.specs.Vertices.{is_inside, with_inner, with_inner_ends, vertices_from, vertices_of}
 use Rattle.vertex_checks.specs.Fan.{ray_number, ray_at, with_ray, with_ray_if, fan_from, fan_of}
-use Rattle.vertex_checks.specs.Faults.{comes_round, kawasaki_faults, mountains, valleys, differ_by_two, maekawa_faults, is_little, little_faults_at, moved, little_faults_from, first_window, little_faults, fan_faults, fault_at, faults_at, faults_of}
+use Rattle.vertex_checks.specs.Sectors.{ray_in, count_of_kind}
+use Rattle.vertex_checks.specs.Faults.{comes_round, kawasaki_faults, differ_by_two, maekawa_faults, is_small_sector, little_fault_at, little_faults, fan_faults, vertex_fault, faults_at, faults_of}
 
 -- ---- vertices
 
@@ -52,28 +55,25 @@ fan_length v pieces = omega (arith, fan_from_length v pieces [])
 
 -- ---- faults
 
-little_at_length : (w : Window) (r : Ray) → length (little_faults_at w r) ≤ 1
-little_at_length w r = elim (is_little w r) as (λ b. length (cond b (BigLittleBig w.start.dir ∷ []) []) ≤ 1) [ true ↦ omega arith | false ↦ omega arith ]
-
-little_from_length : (w : Window) (rays : List Ray) → length (little_faults_from w rays) ≤ length rays
-little_from_length w [] = omega arith
-little_from_length w (r ∷ rs) = omega (arith, length-append (little_faults_at w r) (little_faults_from (moved w r) rs), little_at_length w r, little_from_length (moved w r) rs)
-
-turned_length : (rays : List Ray) → length (drop 2 rays ++ take 2 rays) ≡ length rays
-turned_length rays =
-    let parts = sym (length-append (take 2 rays) (drop 2 rays)) ∙ ap length (take-append-drop 2 rays) in
-    omega (arith, length-append (drop 2 rays) (take 2 rays), parts)
+little_at_length : (fan : List Ray) (k : ℕ) → length (little_fault_at fan k) ≤ 1
+little_at_length fan k =
+    elim (is_small_sector fan k) as (λ b. length (cond b (BigLittleBig (ray_in fan k).dir ∷ []) []) ≤ 1) [ true ↦ omega arith | false ↦ omega arith ]
 
 little_length : (fan : List Ray) → length (little_faults fan) ≤ length fan
 little_length fan =
-    elim (nat_lt (length fan) 4) as (λ b. length (cond b [] (little_faults_from (first_window fan) (drop 2 fan ++ take 2 fan))) ≤ length fan)
-    [ true ↦ omega arith | false ↦ omega (arith, little_from_length (first_window fan) (drop 2 fan ++ take 2 fan), turned_length fan) ]
+    let places = range_with_len 0 (length fan) in
+    let sectors = flat_map_length (little_fault_at fan) 1 (little_at_length fan) places in
+    elim (nat_lt (length fan) 4) as (λ b. length (cond b [] (flat_map (little_fault_at fan) places)) ≤ length fan)
+    [ true ↦ omega arith | false ↦ omega (arith, sectors, length-range_with_len 0 (length fan)) ]
 
 kawasaki_length : (fan : List Ray) → length (kawasaki_faults fan) ≤ 1
 kawasaki_length fan = elim (comes_round fan) as (λ b. length (cond b [] (Kawasaki ∷ [])) ≤ 1) [ true ↦ omega arith | false ↦ omega arith ]
 
 maekawa_length : (fan : List Ray) → length (maekawa_faults fan) ≤ 1
-maekawa_length fan = elim (differ_by_two (mountains fan) (valleys fan)) as (λ b. length (cond b [] (Maekawa (mountains fan) (valleys fan) ∷ [])) ≤ 1) [ true ↦ omega arith | false ↦ omega arith ]
+maekawa_length fan =
+    let mountains = count_of_kind Mountain fan in
+    let valleys = count_of_kind Valley fan in
+    elim (differ_by_two mountains valleys) as (λ b. length (cond b [] (Maekawa mountains valleys ∷ [])) ≤ 1) [ true ↦ omega arith | false ↦ omega arith ]
 
 fan_faults_length : (fan : List Ray) → length (fan_faults fan) ≤ length fan + 2
 fan_faults_length fan =
@@ -81,7 +81,7 @@ fan_faults_length fan =
 
 faults_at_length : (pattern : PatternView) → length pattern.pieces ≤ 2000 → (v : Point) → length (faults_at pattern v) ≤ 2002
 faults_at_length pattern few v =
-    omega (arith, few, length-map (fan_faults (fan_of v pattern.pieces)) (fault_at v), fan_faults_length (fan_of v pattern.pieces), fan_length v pattern.pieces)
+    omega (arith, few, length-map (fan_faults (fan_of v pattern.pieces)) (vertex_fault v), fan_faults_length (fan_of v pattern.pieces), fan_length v pattern.pieces)
 
 pub few_faults : (pattern : PatternView) → IsPattern pattern → length (faults_of pattern) < 2 ^ 32
 unfolding faults_of

@@ -1,5 +1,8 @@
-pub mod Lengths
-pub mod VertexLaws
+pub mod SortedLists
+pub mod LeavesApart
 pub mod FanLaws
+pub mod VertexLaws
+pub mod Lengths
+pub mod KawasakiLaws
 pub mod FaultLaws
-pub mod SectorLaws
+pub mod OrderLaws

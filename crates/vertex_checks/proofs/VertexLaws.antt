@@ -12,8 +12,8 @@ use Rattle.crease_model.specs.View.{PatternView}
 use Rattle.line_split.specs.MemberLaws.{Member, member, contained}
 use Rattle.line_split.specs.Points.{with_point, is_rising}
 use Rattle.line_split.specs.PointLaws.{with_point_new, with_point_old, with_point_either, with_point_rising}
-use Rattle.vertex_checks.specs.Vertices.{is_inside, with_inner, with_inner_ends, vertices_from, vertices_of}
-use Rattle.vertex_checks.specs.Laws.{IsEnd, IsInnerEnd, VerticesAreInnerEnds}
+use Rattle.vertex_checks.specs.Vertices.{IsEnd, IsInnerEnd, is_inside, with_inner, with_inner_ends, vertices_from, vertices_of}
+use Rattle.vertex_checks.specs.Laws.{VerticesAreInnerEnds}
 
 inside_is : (p : Place) → is_inside p ≡ true → p ≡ Inside
 inside_is Outside e = absurd (cc)

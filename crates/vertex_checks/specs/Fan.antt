@@ -1,5 +1,8 @@
 -- The creases that leave a vertex, counterclockwise from direction 0.
-use Rattle.std.specs.Prelude.{ℕ, ◌+◌, ◌%◌, ◌≤◌, nat_lt, List, [], ◌∷◌, Option, None, Some, if◌then◌else◌}
+use Rattle.std.specs.Prelude.{◌≡◌, ◌↔◌, ◌⊎◌, ℕ, ◌+◌, ◌%◌, ◌≤◌, nat_lt, List, [], ◌∷◌, Option, None, Some, Contains, if◌then◌else◌}
+use Rattle.std.specs.List.Sorted.{IsStrictlySortedBy}
+use Rattle.std.specs.Ordering.{nat_cmp}
+use Rattle.std.specs.declared.cmp.Ordering.{Ordering}
 use Rattle.std.proofs.Common.{arith}
 use Rattle.plane_geometry.specs.declared.Point.{Point}
 use Rattle.plane_geometry.specs.declared.Dir.{Dir}
@@ -23,11 +26,29 @@ ray_number r = dir_number r.dir
 abbrev pub ray_of : Piece → ℕ → Ray
 ray_of p n = record { dir = dir_of n; kind = p.kind }
 
+-- the piece begins at v and goes on in its direction, or it ends there, and leaves in the opposite one
+abbrev pub Leaves : Point → Piece → Ray → Type 0
+Leaves v p r =
+    ((lesser_end p.segment ≡ v) × (r ≡ ray_of p (direction_number p.segment)))
+    ⊎ ((greater_end p.segment ≡ v) × (r ≡ ray_of p (direction_number p.segment + 8)))
+
+abbrev pub compare_rays : Ray → Ray → Ordering
+compare_rays q r = nat_cmp (ray_number q) (ray_number r)
+
+-- just the rays in which pieces leave v, by ascending direction, each direction once
+pub record IsFan (pieces : List Piece) (v : Point) (fan : List Ray) : Type 0 where
+  pub rays : (r : Ray) → Contains fan r ↔ ((p : Piece) × Contains pieces p × Leaves v p r)
+  pub order : IsStrictlySortedBy compare_rays fan
+
+-- ---- the same as a list
+
 -- how the piece leaves v: from its lesser end in its direction, and from its greater one in the opposite direction
 abbrev pub ray_at : Point → Piece → Option Ray
 ray_at v p =
-    if is_same_position (position_of (lesser_end p.segment)) (position_of v) then Some (ray_of p (direction_number p.segment))
-    else if is_same_position (position_of (greater_end p.segment)) (position_of v) then Some (ray_of p (direction_number p.segment + 8))
+    if is_same_position (position_of (lesser_end p.segment)) (position_of v)
+    then Some (ray_of p (direction_number p.segment))
+    else if is_same_position (position_of (greater_end p.segment)) (position_of v)
+    then Some (ray_of p (direction_number p.segment + 8))
     else None
 
 -- rays by their directions with one more

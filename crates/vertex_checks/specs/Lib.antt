@@ -1,5 +1,6 @@
 pub mod Vertices
 pub mod Fan
+pub mod Sectors
 pub mod Faults
 pub mod Text
 pub mod Laws

@@ -1,5 +1,5 @@
 -- The vertices that are checked: the ends of pieces strictly inside the sheet, in ascending order.
-use Rattle.std.specs.Prelude.{Bool, true, false, List, [], ◌∷◌, if◌then◌else◌}
+use Rattle.std.specs.Prelude.{◌≡◌, ◌⊎◌, Bool, true, false, List, [], ◌∷◌, Contains, if◌then◌else◌}
 use Rattle.plane_geometry.specs.declared.Point.{Point}
 use Rattle.plane_geometry.specs.Position.{position_of}
 use Rattle.plane_geometry.specs.SegmentView.{lesser_end, greater_end}
@@ -10,6 +10,17 @@ use Rattle.crease_model.specs.Sheet.{place_of}
 use Rattle.crease_model.specs.View.{PatternView}
 use Rattle.line_split.specs.Points.{with_point}
 
+-- v is an end of the piece
+abbrev pub IsEnd : Piece → Point → Type 0
+IsEnd p v = (lesser_end p.segment ≡ v) ⊎ (greater_end p.segment ≡ v)
+
+-- strictly inside the sheet, and an end of a piece
+pub record IsInnerEnd (pattern : PatternView) (v : Point) : Type 0 where
+  pub inside : place_of pattern.corners (position_of v) ≡ Inside
+  pub ends : (p : Piece) × Contains pattern.pieces p × IsEnd p v
+
+-- ---- the same as a list
+
 abbrev pub is_inside : Place → Bool
 is_inside Outside = false
 is_inside Border = false
@@ -17,10 +28,12 @@ is_inside Inside = true
 
 -- ascending points with one more, if it is strictly inside the sheet and not there yet
 abbrev pub with_inner : List Point → List Point → Point → List Point
-with_inner corners points v = if is_inside (place_of corners (position_of v)) then with_point points v else points
+with_inner corners points v =
+    if is_inside (place_of corners (position_of v)) then with_point points v else points
 
 abbrev pub with_inner_ends : List Point → List Point → Piece → List Point
-with_inner_ends corners points p = with_inner corners (with_inner corners points (lesser_end p.segment)) (greater_end p.segment)
+with_inner_ends corners points p =
+    with_inner corners (with_inner corners points (lesser_end p.segment)) (greater_end p.segment)
 
 -- the points with those ends of these pieces
 abbrev pub vertices_from : List Point → List Piece → List Point → List Point

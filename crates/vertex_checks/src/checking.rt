@@ -1,14 +1,16 @@
 //! All faults of a pattern.
 
-ghost use Rattle.std.specs.Prelude.{◌≡◌, ◌<◌, ◌≤◌, ◌∷◌, ◌++◌, [], length, map, IfOk, OnOk};
-ghost use Rattle.vertex_checks.specs.Faults.{comes_round, mountains, valleys, kawasaki_faults, maekawa_faults, fan_faults, fault_at, faults_at, faults_of};
+ghost use Rattle.std.specs.Prelude.{◌≡◌, ◌<◌, ◌≤◌, ◌↔◌, ◌∷◌, ◌++◌, [], length, Contains, IfOk, OnOk};
+ghost use Rattle.isometry_map.specs.LinearView.{linear_number};
+ghost use Rattle.vertex_checks.specs.Sectors.{is_same_kind, count_of_kind};
+ghost use Rattle.vertex_checks.specs.Faults.{IsFault, KawasakiIsByAngles, IsInOrder, comes_round, kawasaki_faults, maekawa_faults, fan_faults, vertex_fault, vertex_faults, faults_at, faults_of};
 
 use crate::fans::{Ray, fan_at};
 use crate::faults::{LocalFault, VertexFault};
-use crate::sectors::{is_mountain, is_valley, push_little_faults};
+use crate::sectors::{push_little_faults, same_kind};
 use crate::vertices::vertices;
-use crease_model::Pattern;
-use isometry_map::{compose_linear, reflection_of};
+use crease_model::{Kind, Pattern};
+use isometry_map::Linear;
 use plane_geometry::Point;
 use std::alloc::{AllocError, Global};
 
@@ -16,48 +18,39 @@ use std::alloc::{AllocError, Global};
 fn comes_round(fan: &[Ray]) -> bool
     ensures { result ≡ comes_round fan.now }
 {
-    let mut done = 0;
+    let mut done = Linear::identity();
     for ray in fan {
-        done = compose_linear(reflection_of(ray.dir), done);
+        done = Linear::reflection(ray.dir).after(done);
     }
-    done == 0
+    done == Linear::identity()
 }
 
-fn mountains(fan: &[Ray]) -> u32
+fn count_of_kind(kind: Kind, fan: &[Ray]) -> u32
     requires { length fan.now ≤ 2000 }
-    ensures { result ≡ mountains fan.now }
+    ensures { result ≡ count_of_kind kind fan.now }
 {
     let mut count = 0;
     for ray in fan {
-        if is_mountain(ray.kind) {
+        if same_kind(ray.kind, kind) {
             count += 1;
         }
     }
     count
 }
 
-fn valleys(fan: &[Ray]) -> u32
-    requires { length fan.now ≤ 2000 }
-    ensures { result ≡ valleys fan.now }
-{
-    let mut count = 0;
-    for ray in fan {
-        if is_valley(ray.kind) {
-            count += 1;
-        }
-    }
-    count
-}
-
-fn push_fault(faults: &mut Vec<VertexFault>, v: &Point, fault: LocalFault) -> Result<(), AllocError>
-    ensures { OnOk result (faults.new.items ≡ faults.old.items ++ fault_at v.now fault ∷ []) }
+pub(crate) fn push_fault(
+    faults: &mut Vec<VertexFault>,
+    v: &Point,
+    fault: LocalFault,
+) -> Result<(), AllocError>
+    ensures { OnOk result (faults.new.items ≡ faults.old.items ++ vertex_fault v.now fault ∷ []) }
 {
     faults.push(VertexFault { vertex: *v, fault })?;
     Ok(())
 }
 
 fn push_kawasaki(faults: &mut Vec<VertexFault>, v: &Point, fan: &[Ray]) -> Result<(), AllocError>
-    ensures { OnOk result (faults.new.items ≡ faults.old.items ++ map (fault_at v.now) (kawasaki_faults fan.now)) }
+    ensures { OnOk result (faults.new.items ≡ faults.old.items ++ vertex_faults v.now (kawasaki_faults fan.now)) }
 {
     if !comes_round(fan) {
         push_fault(faults, v, LocalFault::Kawasaki)?;
@@ -67,10 +60,10 @@ fn push_kawasaki(faults: &mut Vec<VertexFault>, v: &Point, fan: &[Ray]) -> Resul
 
 fn push_maekawa(faults: &mut Vec<VertexFault>, v: &Point, fan: &[Ray]) -> Result<(), AllocError>
     requires { length fan.now ≤ 2000 }
-    ensures { OnOk result (faults.new.items ≡ faults.old.items ++ map (fault_at v.now) (maekawa_faults fan.now)) }
+    ensures { OnOk result (faults.new.items ≡ faults.old.items ++ vertex_faults v.now (maekawa_faults fan.now)) }
 {
-    let m = mountains(fan);
-    let other = valleys(fan);
+    let m = count_of_kind(Kind::Mountain, fan);
+    let other = count_of_kind(Kind::Valley, fan);
     if m != other + 2 && other != m + 2 {
         push_fault(faults, v, LocalFault::Maekawa { m, v: other })?;
     }
@@ -78,17 +71,16 @@ fn push_maekawa(faults: &mut Vec<VertexFault>, v: &Point, fan: &[Ray]) -> Result
 }
 
 pub(crate) fn push_fan(
-    alloc: Global,
     faults: &mut Vec<VertexFault>,
     v: &Point,
     fan: &[Ray],
 ) -> Result<(), AllocError>
     requires { length fan.now ≤ 2000 }
-    ensures { OnOk result (faults.new.items ≡ faults.old.items ++ map (fault_at v.now) (fan_faults fan.now)) }
+    ensures { OnOk result (faults.new.items ≡ faults.old.items ++ vertex_faults v.now (fan_faults fan.now)) }
 {
     push_kawasaki(faults, v, fan)?;
     push_maekawa(faults, v, fan)?;
-    push_little_faults(alloc, faults, v, fan)
+    push_little_faults(faults, v, fan)
 }
 
 fn push_vertex(
@@ -100,7 +92,7 @@ fn push_vertex(
     ensures { OnOk result (faults.new.items ≡ faults.old.items ++ faults_at pattern.now v.now) }
 {
     let fan = fan_at(alloc, v, pattern.pieces())?;
-    push_fan(alloc, faults, v, fan.as_slice())
+    push_fan(faults, v, fan.as_slice())
 }
 
 #[tactic(auto, unfolding(crate::specs::Faults::faults_of))]
@@ -114,12 +106,16 @@ fn all_faults(alloc: Global, pattern: &Pattern) -> Result<Vec<VertexFault>, Allo
     Ok(faults)
 }
 
-/// All faults of a pattern: by vertex, then in the order of the variants, then by direction.
+/// All faults of a pattern: those of Kawasaki's and Maekawa's theorems and of the big-little-big lemma, at each vertex
+/// strictly inside the sheet. They stand by vertex, then in the order of the variants, then by direction.
 pub fn check(alloc: Global, pattern: &Pattern) -> Result<Vec<VertexFault>, AllocError>
+    ensures found { IfOk result (λ list. (f : VertexFault) → Contains list.items f ↔ IsFault pattern.now f) }
+    ensures angles { IfOk result (λ faults. KawasakiIsByAngles pattern.now faults.items) }
+    ensures order { IfOk result (λ faults. IsInOrder faults.items) }
     ensures value { IfOk result (λ faults. faults.items ≡ faults_of pattern.now) }
     ensures few { IfOk result (λ faults. length faults.items < 4294967296) }
 {
-    // for the rules of patterns, which bound the number of faults
+    // for the rules of patterns, on which all but the value rests
     let _pieces = pattern.pieces();
     let faults = all_faults(alloc, pattern)?;
     Ok(faults)

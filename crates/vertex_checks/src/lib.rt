@@ -15,8 +15,5 @@ mod writing;
 pub use checking::check;
 pub use fans::Ray;
 pub use faults::{LocalFault, VertexFault};
-pub use laws::{
-    big_little_big_is_exact, fans_are_rays, faults_are_of_fans, kawasaki_is_exact,
-    maekawa_is_exact, vertices_are_inner_ends,
-};
+pub use laws::{directions_differ, fan_is_one, vertices_are_inner_ends};
 pub use writing::write_faults;

@@ -1,123 +1,95 @@
 //! The big-little-big lemma: sectors smaller than both beside them.
 
-ghost use Rattle.std.specs.Prelude.{◌≡◌, ◌≤◌, ◌++◌, length, map, OnOk};
-ghost use Rattle.vertex_checks.specs.Faults.{is_mountain, is_valley, sector, are_of_one_kind, is_little, little_faults_at, moved, little_faults_from, first_window, little_faults, fault_at};
+ghost use Rattle.std.specs.Prelude.{◌≡◌, ◌<◌, ◌≤◌, ◌++◌, length, OnOk};
+ghost use Rattle.vertex_checks.specs.Sectors.{sector, around, sector_at, is_same_kind};
+ghost use Rattle.vertex_checks.specs.Faults.{is_small_sector, little_fault_at, little_faults, vertex_faults};
 
+use crate::checking::push_fault;
 use crate::fans::Ray;
 use crate::faults::{LocalFault, VertexFault};
 use crease_model::Kind;
 use plane_geometry::Point;
-use std::alloc::{AllocError, Global};
+use std::alloc::AllocError;
 
-// Three rays, each next to the one before.
-#[derive(Clone, Copy)]
-struct Window {
-    before: Ray,
-    start: Ray,
-    end: Ray,
-}
-
-/// Whether it is a mountain.
-pub fn is_mountain(kind: Kind) -> bool
-    ensures { result ≡ is_mountain kind }
+pub(crate) fn same_kind(one: Kind, other: Kind) -> bool
+    ensures { result ≡ is_same_kind one other }
 {
-    match kind {
-        Kind::Mountain => true,
-        Kind::Edge | Kind::Valley | Kind::Aux => false,
-    }
-}
-
-/// Whether it is a valley.
-pub fn is_valley(kind: Kind) -> bool
-    ensures { result ≡ is_valley kind }
-{
-    match kind {
-        Kind::Valley => true,
-        Kind::Edge | Kind::Mountain | Kind::Aux => false,
+    match (one, other) {
+        (Kind::Edge, Kind::Edge)
+        | (Kind::Mountain, Kind::Mountain)
+        | (Kind::Valley, Kind::Valley)
+        | (Kind::Aux, Kind::Aux) => true,
+        _ => false,
     }
 }
 
 // How far it is from one ray to the next, counterclockwise.
-fn sector(q: &Ray, r: &Ray) -> u8
-    ensures { result ≡ sector q.now r.now }
+fn sector(q: Ray, r: Ray) -> u8
+    ensures { result ≡ sector q r }
 {
     (r.dir.number() + 16 - q.dir.number()) % 16
 }
 
-fn of_one_kind(q: &Ray, r: &Ray) -> bool
-    ensures { result ≡ are_of_one_kind q.now r.now }
+// The k-th ray from the first, round and round.
+fn around(fan: &[Ray], k: usize) -> Ray
+    requires { 0 < length fan.now }
+    ensures { result ≡ around fan.now k }
 {
-    is_mountain(q.kind) && is_mountain(r.kind) || is_valley(q.kind) && is_valley(r.kind)
+    fan[k % fan.len()]
 }
 
-// Whether the sector from start to end is smaller than those beside it, with two creases of one kind.
-fn is_little(w: &Window, after: &Ray) -> bool
-    ensures { result ≡ is_little w.now after.now }
+// The sector from the k-th ray to the next.
+fn sector_at(fan: &[Ray], k: usize) -> u8
+    requires some { 0 < length fan.now }
+    requires few { k ≤ 4000 }
+    ensures { result ≡ sector_at fan.now k }
 {
-    let size = sector(&w.start, &w.end);
-    size < sector(&w.before, &w.start)
-        && size < sector(&w.end, after)
-        && of_one_kind(&w.start, &w.end)
+    sector(around(fan, k), around(fan, k + 1))
 }
 
-fn push_little(
+// Whether the sector from the k-th ray is smaller than both beside it, with two creases of one kind.
+fn is_small_sector(fan: &[Ray], k: usize) -> bool
+    requires inside { k < length fan.now }
+    requires few { length fan.now ≤ 2000 }
+    ensures { result ≡ is_small_sector fan.now k }
+{
+    let size = sector_at(fan, k);
+    size < sector_at(fan, k + fan.len() - 1)
+        && size < sector_at(fan, k + 1)
+        && same_kind(around(fan, k).kind, around(fan, k + 1).kind)
+}
+
+fn push_little_fault(
     faults: &mut Vec<VertexFault>,
     v: &Point,
-    w: &Window,
-    after: &Ray,
+    fan: &[Ray],
+    k: usize,
 ) -> Result<(), AllocError>
-    ensures { OnOk result (faults.new.items ≡ faults.old.items ++ map (fault_at v.now) (little_faults_at w.now after.now)) }
+    requires inside { k < length fan.now }
+    requires few { length fan.now ≤ 2000 }
+    ensures { OnOk result (faults.new.items ≡ faults.old.items ++ vertex_faults v.now (little_fault_at fan.now k)) }
 {
-    if is_little(w, after) {
-        faults.push(VertexFault {
-            vertex: *v,
-            fault: LocalFault::BigLittleBig {
-                direction: w.start.dir,
-            },
-        })?;
-    }
-    Ok(())
-}
-
-// The faults of the window, moved over the rays that come after it.
-fn push_little_from(
-    faults: &mut Vec<VertexFault>,
-    v: &Point,
-    first: Window,
-    rays: &[Ray],
-) -> Result<(), AllocError>
-    ensures { OnOk result (faults.new.items ≡ faults.old.items ++ map (fault_at v.now) (little_faults_from first rays.now)) }
-{
-    let mut w = first;
-    for ray in rays {
-        push_little(faults, v, &w, ray)?;
-        w = Window {
-            before: w.start,
-            start: w.end,
-            end: *ray,
-        };
+    if is_small_sector(fan, k) {
+        let direction = fan[k].dir;
+        push_fault(faults, v, LocalFault::BigLittleBig { direction })?;
     }
     Ok(())
 }
 
 /// Adds the sectors around a vertex that are smaller than both beside them and have two creases of one kind.
-pub fn push_little_faults(
-    alloc: Global,
+pub(crate) fn push_little_faults(
     faults: &mut Vec<VertexFault>,
     v: &Point,
     fan: &[Ray],
 ) -> Result<(), AllocError>
-    ensures { OnOk result (faults.new.items ≡ faults.old.items ++ map (fault_at v.now) (little_faults fan.now)) }
+    requires { length fan.now ≤ 2000 }
+    ensures { OnOk result (faults.new.items ≡ faults.old.items ++ vertex_faults v.now (little_faults fan.now)) }
 {
     if fan.len() < 4 {
         return Ok(());
     }
-    let first = Window {
-        before: fan[fan.len() - 1],
-        start: fan[0],
-        end: fan[1],
-    };
-    let mut rays = Vec::from_slice(alloc, &fan[2..])?;
-    rays.extend_from_slice(&fan[..2])?;
-    push_little_from(faults, v, first, rays.as_slice())
+    for k in 0..fan.len() {
+        push_little_fault(faults, v, fan, k)?;
+    }
+    Ok(())
 }

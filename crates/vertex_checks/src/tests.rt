@@ -39,7 +39,7 @@ fn text_at(alloc: Global, pieces: &[Piece], x: i64, y: i64) -> Result<Vec<u8>, F
     let v = whole(x, y)?;
     let fan = fan_at(alloc, &v, pieces)?;
     let mut faults = Vec::new(alloc);
-    push_fan(alloc, &mut faults, &v, fan.as_slice())?;
+    push_fan(&mut faults, &v, fan.as_slice())?;
     let mut out = Vec::new(alloc);
     write_faults(&mut out, faults.as_slice())?;
     Ok(out)

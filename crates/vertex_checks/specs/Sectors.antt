@@ -1,0 +1,79 @@
+-- The sectors between neighbouring creases of a fan, and what the theorems say of them and of the creases.
+use Rattle.std.specs.Prelude.{◌≡◌, ◌≢◌, ℕ, ◌+◌, ◌-◌, ◌%◌, ◌<◌, Bool, true, false, List, [], ◌∷◌, length, slice_index_or, IsTrue}
+use Rattle.std.specs.List.{count_by}
+use Rattle.crease_model.specs.declared.Kind.{Kind}
+use Rattle.crease_model.specs.declared.Kind.TheVariants.{Edge, Mountain, Valley, Aux}
+use Rattle.isometry_map.specs.Linear.{rotation, reflection, composed}
+use Rattle.vertex_checks.specs.declared.fans.Ray.{Ray}
+use Rattle.vertex_checks.specs.Fan.{dir_of, ray_number}
+
+-- ---- around a vertex
+
+-- how far it is from one ray to the next, counterclockwise, in steps of 22.5 degrees
+abbrev pub sector : Ray → Ray → ℕ
+sector q r = (ray_number r + 16 - ray_number q) % 16
+
+abbrev pub no_ray : Ray
+no_ray = record { dir = dir_of 0; kind = Edge }
+
+abbrev pub ray_in : List Ray → ℕ → Ray
+ray_in fan k = slice_index_or fan k no_ray
+
+-- the k-th ray from the first, round and round
+abbrev pub around : List Ray → ℕ → Ray
+around fan k = ray_in fan (k % length fan)
+
+-- the sector from the k-th ray to the next
+abbrev pub sector_at : List Ray → ℕ → ℕ
+sector_at fan k = sector (around fan k) (around fan (k + 1))
+
+-- ---- Kawasaki
+
+-- the linear part done, then the reflections in the lines of the creases, one after the other
+abbrev pub reflected_from : List Ray → ℕ → ℕ
+reflected_from [] done = done
+reflected_from (r ∷ rs) done = reflected_from rs (composed (reflection (ray_number r)) done)
+
+-- they give the identity
+abbrev pub ComesRound : List Ray → Type 0
+ComesRound fan = reflected_from fan (rotation 0) ≡ rotation 0
+
+-- the sizes of every other sector, from the first, together
+abbrev pub every_other : List Ray → ℕ
+every_other [] = 0
+every_other (q ∷ []) = 0
+every_other (q ∷ r ∷ rs) = sector q r + every_other rs
+
+-- the number of creases is even, and every other sector adds to 8 steps, which are 180 degrees
+pub record IsStraight (fan : List Ray) : Type 0 where
+  pub even : length fan % 2 ≡ 0
+  pub half : every_other fan ≡ 8
+
+-- ---- Maekawa
+
+abbrev pub is_same_kind : Kind → Kind → Bool
+is_same_kind Edge Edge = true
+is_same_kind Mountain Mountain = true
+is_same_kind Valley Valley = true
+is_same_kind Aux Aux = true
+is_same_kind _ _ = false
+
+-- how many creases are of this kind
+abbrev pub count_of_kind : Kind → List Ray → ℕ
+count_of_kind kind fan = count_by (λ r. is_same_kind r.kind kind) fan
+
+-- there are m mountains and v valleys, and these numbers don't differ by two
+pub record IsUnbalanced (fan : List Ray) (m v : ℕ) : Type 0 where
+  pub mountains : m ≡ count_of_kind Mountain fan
+  pub valleys : v ≡ count_of_kind Valley fan
+  pub not_more : m ≢ v + 2
+  pub not_less : v ≢ m + 2
+
+-- ---- big-little-big
+
+-- the sector from the k-th crease is smaller than the one before it and than the one after it, and both its creases are
+-- of one kind
+pub record IsSmallSector (fan : List Ray) (k : ℕ) : Type 0 where
+  pub before : sector_at fan k < sector_at fan (k + length fan - 1)
+  pub after : sector_at fan k < sector_at fan (k + 1)
+  pub alike : IsTrue (is_same_kind (around fan k).kind (around fan (k + 1)).kind)
