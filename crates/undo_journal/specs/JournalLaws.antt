@@ -99,3 +99,14 @@ IsJournal-redone j k h found = (IsJournal-redone_to j k j.redo h refl found).0
 -- an undo right after a redo gives back the journal before it
 pub redone_taken_back : (j k : JournalView) → IsJournal j → redone j ≡ Some k → undone k ≡ j
 redone_taken_back j k h found = (IsJournal-redone_to j k j.redo h refl found).1
+
+redone_to-keeps : (j k : JournalView) (ns : List ℕ) → redone_to j ns ≡ Some k → KeepsPatterns j k
+redone_to-keeps j k [] found version p e = cc
+redone_to-keeps j k (n ∷ ns) found version p e =
+    let next : JournalView = record { versions = j.versions; current = n; redo = ns } in
+    let same : next ≡ k = cc in
+    let P : JournalView → Type 0 = λ i. pattern_at i version ≡ Some p in
+    subst P same e
+
+pub redone_keeps : (j k : JournalView) → redone j ≡ Some k → KeepsPatterns j k
+redone_keeps j k found = redone_to-keeps j k j.redo found
