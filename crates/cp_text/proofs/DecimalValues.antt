@@ -25,7 +25,7 @@ digits_value-split : (n : ℕ) (ds es : List ℕ) → digits_value n (ds ++ es) 
 digits_value-split n [] es = refl
 digits_value-split n (d ∷ ds) es = digits_value-split (10 * n + (d - 48)) ds es
 
-digits_value-from : (n : ℕ) (ds : List ℕ) → digits_value n ds ≡ n * 10 ^ length ds + digits_value 0 ds
+pub digits_value-from : (n : ℕ) (ds : List ℕ) → digits_value n ds ≡ n * 10 ^ length ds + digits_value 0 ds
 digits_value-from n [] = omega arith
 digits_value-from n (d ∷ ds) =
     let ten : 10 ^ suc (length ds) ≡ 10 * 10 ^ length ds = pow-succ' 10 (length ds) in
@@ -38,16 +38,16 @@ zeros-value (suc z) = zeros-value z
 
 -- ---- digits without the zeros at their end
 
-record Ends (ds : List ℕ) : Type 0 where
-  front : List ℕ
-  last : ℕ
-  joined : front ++ last ∷ [] ≡ ds
-  not_zero : last ≢ 48
+pub record Ends (ds : List ℕ) : Type 0 where
+  pub front : List ℕ
+  pub last : ℕ
+  pub joined : front ++ last ∷ [] ≡ ds
+  pub not_zero : last ≢ 48
 
-record Trimmed (ds trimmed : List ℕ) : Type 0 where
-  zeros : ℕ
-  joined : trimmed ++ replicate zeros 48 ≡ ds
-  end : (trimmed ≡ []) ⊎ Ends trimmed
+pub record Trimmed (ds trimmed : List ℕ) : Type 0 where
+  pub zeros : ℕ
+  pub joined : trimmed ++ replicate zeros 48 ≡ ds
+  pub end : (trimmed ≡ []) ⊎ Ends trimmed
 
 trimmed-more : (d : ℕ) (ds ts : List ℕ) → Trimmed ds ts → Trimmed (d ∷ ds) (kept_digit d ts)
 trimmed-more d ds [] h =
@@ -69,7 +69,7 @@ trimmed-more d ds (t ∷ ts) h = record {
     ends (inl e) = cc
     ends (inr e) = inr (record { front = d ∷ e.front; last = e.last; joined = ap (λ xs. d ∷ xs) e.joined; not_zero = e.not_zero })
 
-trimmed_of : (ds : List ℕ) → Trimmed ds (without_zeros ds)
+pub trimmed_of : (ds : List ℕ) → Trimmed ds (without_zeros ds)
 trimmed_of [] = record { zeros = 0; joined = refl; end = inl refl }
 trimmed_of (d ∷ ds) = trimmed-more d ds (without_zeros ds) (trimmed_of ds)
 
@@ -79,7 +79,7 @@ front_digits ds es h =
     (record { all = parts.0 }, record { all = parts.1 })
 
 -- the value of digits with another last digit than zero is no multiple of ten
-no_tens : (ds : List ℕ) → AreDigits ds → Ends ds → digits_value 0 ds % 10 ≢ 0
+pub no_tens : (ds : List ℕ) → AreDigits ds → Ends ds → digits_value 0 ds % 10 ≢ 0
 no_tens ds h e =
     let P : List ℕ → Type 0 = AreDigits in
     let last = (front_digits e.front (e.last ∷ []) (subst P (sym e.joined) h)).1 in
@@ -205,10 +205,10 @@ scaled_of ds ts h = record {
     plus_none : (n : ℕ) → n + 0 ≡ n
     plus_none n = omega arith
 
-ten_positive : (k : ℕ) → 0 < 10 ^ k
+pub ten_positive : (k : ℕ) → 0 < 10 ^ k
 ten_positive k = one-le-pow k 10 (lit< tt)
 
-fraction_has : (ds : List ℕ) (p : ℕ) → fraction_parts ds ≡ Some p → digits_value 0 ds * 2 ^ 16 ≡ p * 10 ^ length ds
+pub fraction_has : (ds : List ℕ) (p : ℕ) → fraction_parts ds ≡ Some p → digits_value 0 ds * 2 ^ 16 ≡ p * 10 ^ length ds
 fraction_has ds p e =
     let ts = without_zeros ds in
     let s = scaled_of ds ts (trimmed_of ds) in
@@ -273,7 +273,7 @@ has_magnitude ds fs n h e =
 
 -- ---- the law
 
-surd_answer-ok : (o : Option Surd) (s : Surd) → surd_answer o ≡ Ok s → o ≡ Some s
+pub surd_answer-ok : (o : Option Surd) (s : Surd) → surd_answer o ≡ Ok s → o ≡ Some s
 surd_answer-ok None s e = cc
 surd_answer-ok (Some t) s e = let same : t ≡ s = cc in ap Some same
 

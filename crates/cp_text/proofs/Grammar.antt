@@ -12,11 +12,7 @@ use Rattle.cp_text.specs.NumberText.{behind_point}
 use Rattle.cp_text.specs.NumberWord.{Scan, with_fraction, behind_whole, with_whole, decimal_at, SignedDecimal, signed_decimal, NumberWord, Rational, Root, Both, is_root_mark, second_part, behind_first, first_part, has_minus, behind_minus, number_word, is_power, is_power_mark, has_power, is_exponential}
 use Rattle.cp_text.specs.NumberReading.{word_value, word_read, number_read}
 use Rattle.cp_text.specs.NumberGrammar.{IsDecimal, IsWellFormed, front_sign, middle_sign, decimal_text, front_text, root_mark, word_text, IsWordOf, IsExponential, ReadsByTheGrammar}
-use Rattle.cp_text.proofs.DigitTexts.{AreDigits, both_true, no_digit_first, digits_none, digits_more, digits_first, digit_byte_least, leading_digits-append, behind_digits-append}
-
-bool_cases : (b : Bool) → (b ≡ true) ⊎ (b ≡ false)
-bool_cases true = inl refl
-bool_cases false = inr refl
+use Rattle.cp_text.proofs.DigitTexts.{AreDigits, bool_cases, both_true, no_digit_first, digits_none, digits_more, digits_first, digit_byte_least, leading_digits-append, behind_digits-append}
 
 -- ---- what is scanned is what stands there
 
@@ -86,7 +82,7 @@ pub some_digits : (ds : List ℕ) → AreDigits ds → 0 < length ds → is_digi
 some_digits [] h some = absurd (omega arith)
 some_digits (d ∷ ds) h some = h.all
 
-digits_some : (ds : List ℕ) → is_digits ds ≡ true → AreDigits ds × (0 < length ds)
+pub digits_some : (ds : List ℕ) → is_digits ds ≡ true → AreDigits ds × (0 < length ds)
 digits_some [] h = cc
 digits_some (d ∷ ds) h = (record { all = h }, omega arith)
 

@@ -8,4 +8,6 @@ pub mod LowestTerms
 pub mod PrintedNumbers
 pub mod Grammar
 pub mod PrintedLines
+pub mod PartedText
+pub mod ShortestNumbers
 pub mod ReadBack

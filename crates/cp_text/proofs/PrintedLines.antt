@@ -15,10 +15,10 @@ use Rattle.crease_model.specs.declared.Kind.{Kind}
 use Rattle.crease_model.specs.declared.Kind.TheVariants.{Edge, Mountain, Valley, Aux}
 use Rattle.crease_model.specs.View.{PatternView}
 use Rattle.cp_text.specs.declared.line.CpLine.{CpLine}
-use Rattle.cp_text.specs.Words.{is_blank, after_word, words_from, words_of, lines_from, lines_of, without_return, bare_lines}
+use Rattle.cp_text.specs.Words.{longest_line, is_blank, after_word, words_from, words_of, lines_from, lines_of, without_return, bare_lines}
 use Rattle.cp_text.specs.NumberText.{fraction_digits, behind_point, magnitude_text, minus_text, joining_text, part_text, parts_text, number_text}
 use Rattle.cp_text.specs.LineText.{kind_digit, coordinate_text, point_text, line_body, line_text, lines_text, pattern_lines, pattern_text}
-use Rattle.cp_text.specs.LineReading.{coordinate_read, placed, kind_line, words_line, line_read}
+use Rattle.cp_text.specs.LineReading.{coordinate_read, coordinate_or_fault, kind_line, words_line, line_read}
 use Rattle.cp_text.proofs.DigitTexts.{AreDigits, both_true, digits_first, digits_rest, digit_byte_least, decimal_is}
 use Rattle.cp_text.proofs.LowestTerms.{fraction_digits-digits, length-fraction_digits}
 use Rattle.cp_text.proofs.PrintedNumbers.{number_text-reads}
@@ -193,7 +193,7 @@ body_words line =
     ∙ ap (λ ws. text_of line.to.x ∷ ws) (words_of-last (text_of line.to.y) w4.bytes w4.some))))
 
 coordinate-reads : (place : ℕ) (s : Surd) → coordinate_read place (text_of s) ≡ Ok s
-coordinate-reads place s = ap (placed place) (number_text-reads s)
+coordinate-reads place s = ap (coordinate_or_fault place) (number_text-reads s)
 
 abbrev line_numbers : CpLine → List (List ℕ)
 line_numbers line = text_of line.from.x ∷ text_of line.from.y ∷ text_of line.to.x ∷ text_of line.to.y ∷ []
@@ -212,7 +212,7 @@ numbers-read line =
     let y2 = coordinate-reads 4 line.to.y in
     rw (x1, y1, x2, y2) refl
 
-length-body : (line : CpLine) → length (line_body line) ≤ 1000
+length-body : (line : CpLine) → length (line_body line) ≤ longest_line
 length-body line =
     let w1 = number_word line.from.x in
     let w2 = number_word line.from.y in
@@ -229,9 +229,9 @@ length-body line =
       length-append (point_text line.from) (point_text line.to),
     )
 
-not_long : (line : List ℕ) → length line ≤ 1000 → line_read line ≡ words_line (words_of line)
+not_long : (line : List ℕ) → length line ≤ longest_line → line_read line ≡ words_line (words_of line)
 unfolding line_read
-not_long line h = let short : nat_lt 1000 (length line) ≡ false = grind (arith, nat_tests) in rw short refl
+not_long line h = let short : nat_lt longest_line (length line) ≡ false = grind (arith, nat_tests) in rw short refl
 
 pub line_body-reads : (line : CpLine) → line_read (line_body line) ≡ Ok line
 line_body-reads line =

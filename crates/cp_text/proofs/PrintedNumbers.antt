@@ -32,7 +32,7 @@ part_below m k = mod_below m (2 ^ k) (pow_pos k)
 
 -- ---- a part with its sign
 
-abbrev is_negative : ℤ → Bool
+abbrev pub is_negative : ℤ → Bool
 is_negative (pos n) = false
 is_negative (negsuc n) = true
 
@@ -57,11 +57,11 @@ middle-text (negsuc n) k = refl
 
 -- ---- how many parts of 2^16
 
-signed-times : (z : ℤ) (n : ℕ) → signed (is_negative z) (unsigned_abs z * n) ≡ z *ℤ pos n
+pub signed-times : (z : ℤ) (n : ℕ) → signed (is_negative z) (unsigned_abs z * n) ≡ z *ℤ pos n
 signed-times (pos m) n = refl
 signed-times (negsuc m) n = omega (arith, ints)
 
-parts_joined : (m k : ℕ) → k ≤ 16 → m / 2 ^ k * 2 ^ 16 + m % 2 ^ k * 2 ^ (16 - k) ≡ m * 2 ^ (16 - k)
+pub parts_joined : (m k : ℕ) → k ≤ 16 → m / 2 ^ k * 2 ^ 16 + m % 2 ^ k * 2 ^ (16 - k) ≡ m * 2 ^ (16 - k)
 parts_joined m k few =
     let here : k + (16 - k) ≡ 16 = omega arith in
     let whole : 2 ^ 16 ≡ 2 ^ k * 2 ^ (16 - k) = ap (λ j. 2 ^ j) (sym here) ∙ pow-add 2 k (16 - k) in
@@ -121,7 +121,7 @@ parts_text-reads (negsuc m) (pos (suc n)) k small_a small_b few = both_parts (ne
 parts_text-reads (negsuc m) (negsuc n) k small_a small_b few = both_parts (negsuc m) (negsuc n) k small_a small_b few
 
 -- the parts are those of the number
-part_same : (a : ℤ) (k : ℕ) → k ≤ 16 → a *ℤ power 16 ≡ (a *ℤ power (16 - k)) *ℤ power k
+pub part_same : (a : ℤ) (k : ℕ) → k ≤ 16 → a *ℤ power 16 ≡ (a *ℤ power (16 - k)) *ℤ power k
 part_same a k few =
     let here : 16 - k + k ≡ 16 = omega arith in
     ap (λ j. a *ℤ power j) (sym here) ∙ ap (λ n. a *ℤ pos n) (pow-add 2 (16 - k) k) ∙ sym (int_mul_assoc a (power (16 - k)) (power k))

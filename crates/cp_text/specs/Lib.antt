@@ -1,10 +1,12 @@
 pub mod Words
+pub mod PartedText
 pub mod Digits
 pub mod NumberText
 pub mod LineText
 pub mod Growth
 pub mod NumberWord
 pub mod NumberReading
+pub mod ShortestText
 pub mod NumberGrammar
 pub mod NumberValue
 pub mod LineReading

@@ -12,22 +12,22 @@ use Rattle.cp_text.specs.declared.line.Ends.{Ends}
 use Rattle.cp_text.specs.declared.line.LineFault.{LineFault}
 use Rattle.cp_text.specs.declared.line.LineFault.TheVariants.{LongLine, UnknownWord, BadKind, WrongCount, BadNumber, NotExact, OutOfRange}
 use Rattle.cp_text.specs.Digits.{is_digits}
-use Rattle.cp_text.specs.Words.{words_of}
+use Rattle.cp_text.specs.Words.{longest_line, words_of}
 use Rattle.cp_text.specs.NumberReading.{number_read}
 
 -- a number's fault at its place among the words after the first
-abbrev pub fault_at : ℕ → NumberFault → LineFault
-fault_at place number.Bad = BadNumber place
-fault_at place number.NotExact = NotExact place
-fault_at place number.OutOfRange = OutOfRange place
+abbrev pub number_fault_at : ℕ → NumberFault → LineFault
+number_fault_at place number.Bad = BadNumber place
+number_fault_at place number.NotExact = NotExact place
+number_fault_at place number.OutOfRange = OutOfRange place
 
-abbrev pub placed : ℕ → Result Surd NumberFault → Result Surd LineFault
-placed place (Ok n) = Ok n
-placed place (Err fault) = Err (fault_at place fault)
+abbrev pub coordinate_or_fault : ℕ → Result Surd NumberFault → Result Surd LineFault
+coordinate_or_fault place (Ok n) = Ok n
+coordinate_or_fault place (Err fault) = Err (number_fault_at place fault)
 
 -- the coordinate at a place
 abbrev pub coordinate_read : ℕ → List ℕ → Result Surd LineFault
-coordinate_read place word = placed place (number_read word)
+coordinate_read place word = coordinate_or_fault place (number_read word)
 
 abbrev pub point_of : Result Surd LineFault → Result Surd LineFault → Result Point LineFault
 point_of (Ok x) (Ok y) = Ok (record { x = x; y = y })
@@ -72,4 +72,4 @@ words_line (word ∷ words) = if is_digits word then kind_line (kind_of word) wo
 
 -- a line that is not blank, without its end
 unfoldable pub line_read : List ℕ → Result CpLine LineFault
-line_read line = if nat_lt 1000 (length line) then Err LongLine else words_line (words_of line)
+line_read line = if nat_lt longest_line (length line) then Err LongLine else words_line (words_of line)

@@ -1,6 +1,10 @@
 -- Words of a line, and lines of a text.
 use Rattle.std.specs.Prelude.{ℕ, ◌-◌, Bool, true, not, ◌||◌, ◌==◌, List, [], ◌∷◌, ◌++◌, map, length, take, slice_index, if◌then◌else◌}
 
+-- the most bytes of a line without its end
+abbrev pub longest_line : ℕ
+longest_line = 1000
+
 -- a space or a tab
 abbrev pub is_blank : ℕ → Bool
 is_blank b = (b == 32) || (b == 9)

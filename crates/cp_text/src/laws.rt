@@ -1,13 +1,19 @@
-//! What is written reads as what it was written from. These functions do nothing: each contract is a law of the text.
+//! What is written reads as what it was written from, and other laws of the text. These functions do nothing: each
+//! contract is a law.
 
 ghost use Rattle.cp_text.specs.NumberGrammar.{ReadsByTheGrammar};
 ghost use Rattle.cp_text.specs.NumberValue.{ReadsTheValue};
-ghost use Rattle.cp_text.specs.Laws.{NumbersReadBack, LinesReadBack, PatternsReadBack, PatternsArePartedByLines};
+ghost use Rattle.cp_text.specs.Laws.{NumbersReadBack, NumbersAreShortest, LinesReadBack, PatternsReadBack, PatternsArePartedByLines, WordsArePartedByBlanks, LinesEndAtFeeds};
 
 /// Reading the text of a number gives that number.
 #[tactic(auto, using(crate::proofs::ReadBack::numbers_read_back))]
 pub fn numbers_read_back()
     ensures { NumbersReadBack }
+{}
+
+/// A number's text reads as it, and no text of fewer bytes does.
+pub fn numbers_are_shortest()
+    ensures { NumbersAreShortest }
 {}
 
 /// Reading the text of a line without its line feed gives that line.
@@ -40,4 +46,16 @@ pub fn reads_by_the_grammar()
 #[tactic(auto, using(crate::proofs::DecimalValues::reads_the_value))]
 pub fn reads_the_value()
     ensures { ReadsTheValue }
+{}
+
+/// The words of a line are those of which it is put together with runs of spaces and tabs.
+pub fn words_are_parted_by_blanks()
+    ensures { WordsArePartedByBlanks }
+{}
+
+/// The lines of a text are those of which it is put together with line feeds, and one carriage return at the end of a
+/// line goes.
+#[tactic(auto, using(crate::proofs::PartedText::lines_end_at_feeds))]
+pub fn lines_end_at_feeds()
+    ensures { LinesEndAtFeeds }
 {}

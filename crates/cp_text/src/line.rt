@@ -4,6 +4,9 @@ use crease_model::Kind;
 use plane_geometry::Point;
 use thiserror::Error;
 
+/// The most bytes of a line without its end.
+pub const LONGEST_LINE: usize = 1000;
+
 /// A line of a crease pattern: its kind and its two ends, in the order in which they stand in the text.
 #[derive(Clone, Copy, Debug, PartialEq, Eq)]
 pub struct CpLine {

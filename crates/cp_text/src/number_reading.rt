@@ -6,7 +6,7 @@ ghost use Rattle.cp_text.specs.NumberWord.{with_fraction, behind_whole, with_who
 ghost use Rattle.cp_text.specs.NumberReading.{exact_parts, fraction_parts, signed, bounded, decimal_parts, surd_answer, parts_read, word_value, word_read, number_read};
 ghost use Rattle.surd_number.specs.Exact.{surd_of};
 
-use surd_number::Surd;
+use surd_number::{OutOfRange, Surd};
 use thiserror::Error;
 
 /// Why a word is no number.
@@ -19,6 +19,17 @@ pub enum NumberFault {
     NotExact,
     #[error("the number is out of range")]
     OutOfRange,
+}
+
+impl From<OutOfRange> for NumberFault {
+    ghost use Rattle.std.specs.Prelude.{◌≡◌};
+    ghost use Rattle.cp_text.specs.declared.number_reading.NumberFault.TheVariants.{OutOfRange};
+
+    ghost from_gives = { λ _ e. e ≡ OutOfRange };
+
+    fn from(_fault: OutOfRange) -> NumberFault {
+        NumberFault::OutOfRange
+    }
 }
 
 /// Above every whole part of a stored number.
@@ -206,10 +217,10 @@ fn read_sum(a: Option<i64>, b: Option<i64>) -> Result<Surd, NumberFault>
     ensures { result ≡ parts_read a b }
 {
     match (a, b) {
-        (Some(a), Some(b)) => match Surd::new(a, b, 16) {
-            Ok(n) => Ok(n),
-            Err(_) => Err(NumberFault::OutOfRange),
-        },
+        (Some(a), Some(b)) => {
+            let n = Surd::new(a, b, 16)?;
+            Ok(n)
+        }
         _ => Err(NumberFault::NotExact),
     }
 }

@@ -3,9 +3,11 @@
 ghost use Rattle.std.specs.Prelude.{◌≡◌, ◌+◌, ◌*◌, ◌%◌, ◌^◌, ◌<◌, ◌≤◌, ◌++◌, OnOk, OnErr, codes, decimal, unsigned_abs};
 ghost use Rattle.cp_text.specs.Digits.{padded_digits};
 ghost use Rattle.cp_text.specs.NumberText.{fraction_digits, behind_point, magnitude_text, part_text, parts_text, joining_text, number_text};
+ghost use Rattle.cp_text.specs.ShortestText.{IsShortestText};
 ghost use Rattle.cp_text.specs.Growth.{KeepsFront};
 ghost use Rattle.surd_number.specs.Value.{number_of};
 
+use crate::appending::all_or_nothing;
 use itoa::Buffer;
 use std::alloc::AllocError;
 use surd_number::Surd;
@@ -125,14 +127,12 @@ fn put_parts(out: &mut Vec<u8>, a: i64, b: i64, places: u8) -> Result<(), AllocE
 /// output as it was.
 pub fn write_number(out: &mut Vec<u8>, n: &Surd) -> Result<(), AllocError>
     ensures ok { OnOk result (out.new.items ≡ out.old.items ++ number_text (number_of n.now)) }
+    ensures shortest { IsShortestText n.now (number_text (number_of n.now)) }
     ensures err { OnErr result (out.new.items ≡ out.old.items) }
 {
     let before = out.len();
     let written = put_number(out, n);
-    if written.is_err() {
-        out.truncate(before);
-    }
-    written
+    all_or_nothing(out, before, written)
 }
 
 // The number, or a part of it before memory ran out.

@@ -1,21 +1,18 @@
 //! Crease lines read from text.
 
-ghost use Rattle.std.specs.Prelude.{◌≡◌, ◌≢◌, ◌+◌, ◌<◌, ◌^◌, []};
+ghost use Rattle.std.specs.Prelude.{◌≡◌, ◌≢◌, ◌+◌, ◌<◌, ◌^◌, ◌∷◌, []};
 ghost use Rattle.cp_text.specs.Words.{words_of};
-ghost use Rattle.cp_text.specs.LineReading.{fault_at, coordinate_read, point_of, point_read, ends_of, ends_read, kind_of, line_with, kind_line, words_line, line_read};
+ghost use Rattle.cp_text.specs.LineReading.{number_fault_at, coordinate_read, point_of, point_read, ends_of, ends_read, kind_of, line_with, kind_line, words_line, line_read};
 
-use crate::line::{CpLine, Ends, LineFault};
+use crate::line::{CpLine, Ends, LONGEST_LINE, LineFault};
 use crate::number_reading::{NumberFault, is_digits, read_number};
 use crate::words::next_word;
 use crease_model::Kind;
 use plane_geometry::Point;
 use surd_number::Surd;
 
-/// The longest line, in bytes.
-const LONGEST: usize = 1000;
-
-fn fault_at(place: u32, fault: NumberFault) -> LineFault
-    ensures { result ≡ fault_at place fault }
+fn number_fault_at(place: u32, fault: NumberFault) -> LineFault
+    ensures { result ≡ number_fault_at place fault }
 {
     match fault {
         NumberFault::Bad => LineFault::BadNumber { place },
@@ -30,7 +27,7 @@ pub fn read_coordinate(place: u32, word: &[u8]) -> Result<Surd, LineFault>
 {
     match read_number(word) {
         Ok(n) => Ok(n),
-        Err(fault) => Err(fault_at(place, fault)),
+        Err(fault) => Err(number_fault_at(place, fault)),
     }
 }
 
@@ -90,31 +87,37 @@ fn read_kind_line(kind: Option<Kind>, words: &[u8]) -> Result<CpLine, LineFault>
     ensures { result ≡ kind_line kind (words_of words.now) }
 {
     match kind {
-        Some(kind) => match read_ends(1, words) {
-            Ok(Ends { from, to }) => Ok(CpLine { kind, from, to }),
-            Err(fault) => Err(fault),
-        },
+        Some(kind) => {
+            let Ends { from, to } = read_ends(1, words)?;
+            Ok(CpLine { kind, from, to })
+        }
         None => Err(LineFault::BadKind),
     }
 }
 
+/// The crease line of a line of text that was parted into its first word and the rest.
+#[tactic(auto, unfolding(crate::specs::LineReading::line_read))]
+pub fn read_line_words(line: &[u8], word: &[u8], words: &[u8]) -> Result<CpLine, LineFault>
+    requires { words_of line.now ≡ word.now ∷ words_of words.now }
+    ensures { result ≡ line_read line.now }
+{
+    if line.len() > LONGEST_LINE {
+        return Err(LineFault::LongLine);
+    }
+    if !is_digits(word) {
+        return Err(LineFault::UnknownWord);
+    }
+    read_kind_line(read_kind(word), words)
+}
+
 /// The crease line of a line of text without its end: a kind and four coordinates. The faults come in the order of
 /// `LineFault`, those of numbers from left to right.
-#[tactic(auto, unfolding(crate::specs::LineReading::line_read))]
 pub fn read_line(line: &[u8]) -> Result<CpLine, LineFault>
     requires { words_of line.now ≢ [] }
     ensures { result ≡ line_read line.now }
 {
-    if line.len() > LONGEST {
-        return Err(LineFault::LongLine);
-    }
     match next_word(line) {
-        Some((word, words)) => {
-            if !is_digits(word) {
-                return Err(LineFault::UnknownWord);
-            }
-            read_kind_line(read_kind(word), words)
-        }
+        Some((word, words)) => read_line_words(line, word, words),
         None => unreachable!(),
     }
 }

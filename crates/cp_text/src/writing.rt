@@ -5,6 +5,7 @@ ghost use Rattle.surd_number.specs.Value.{number_of};
 ghost use Rattle.cp_text.specs.LineText.{kind_digit, coordinate_text, point_text, line_body, line_text, line_between, side_lines, rest_sides, segment_line, piece_line, auxiliary_line, lines_text, pattern_lines, pattern_text};
 ghost use Rattle.cp_text.specs.Growth.{KeepsFront};
 
+use crate::appending::all_or_nothing;
 use crate::line::CpLine;
 use crate::number_writing::put_number;
 use crease_model::{Kind, Pattern, Piece};
@@ -70,10 +71,7 @@ pub fn write_line(out: &mut Vec<u8>, line: &CpLine) -> Result<(), AllocError>
 {
     let before = out.len();
     let written = put_line(out, line);
-    if written.is_err() {
-        out.truncate(before);
-    }
-    written
+    all_or_nothing(out, before, written)
 }
 
 // The corner after corner i, which for the last is the first.
@@ -159,8 +157,5 @@ pub fn write_pattern(out: &mut Vec<u8>, pattern: &Pattern) -> Result<(), AllocEr
 {
     let before = out.len();
     let written = put_pattern(out, pattern);
-    if written.is_err() {
-        out.truncate(before);
-    }
-    written
+    all_or_nothing(out, before, written)
 }

@@ -12,7 +12,7 @@ use Rattle.job_register.specs.Legal.{after, state_from, state_after, IsLegalFrom
 use Rattle.job_register.specs.Text.{text_from, text_of, reply_text}
 use Rattle.job_register.specs.Kept.{Keeps}
 
-state_from-append : (s : State) (es fs : List Event) → state_from s (es ++ fs) ≡ state_from (state_from s es) fs
+pub state_from-append : (s : State) (es fs : List Event) → state_from s (es ++ fs) ≡ state_from (state_from s es) fs
 state_from-append s [] fs = refl
 state_from-append s (e ∷ es) fs = state_from-append (after s e) es fs
 

@@ -1,5 +1,12 @@
 -- Records are determined by their commands, and rows computed by the definitions.
-use Rattle.std.proofs.Common.{◌≡◌, List, [], ◌∷◌, refl, ap₂}
+use Rattle.std.proofs.Common.{◌≡◌, ◌-◌, inl, inr, true, false, List, [], ◌∷◌, length, refl, ap₂, arith}
+use Rattle.std.specs.Prelude.{nat_eq}
+use Rattle.std.proofs.lemmas.Bool.{cases_eq}
+use Rattle.std.proofs.lemmas.Bool.Decides.{nat_tests}
+use Rattle.undo_journal.specs.Versions.{greatest_version}
+use Rattle.cp_text.specs.NumberText.{magnitude_text, number_text}
+use Rattle.cp_text.specs.LineText.{line_text}
+use Rattle.std.specs.Fmt.{digits}
 use Rattle.plane_geometry.specs.Direction.{direction_of}
 use Rattle.crease_model.specs.NewSheet.{sheet_of}
 use Rattle.line_split.specs.Cuts.{cuts_of}
@@ -12,7 +19,7 @@ use Rattle.job_register.specs.declared.session.Event.{Event}
 use Rattle.job_register.specs.declared.session.Event.TheVariants.{Made}
 use Rattle.job_register.specs.Machine.{State, first_state, answer}
 use Rattle.job_register.specs.Legal.{IsLegalFrom, commands_in}
-use Rattle.job_register.specs.Replay.{record_from, LegalRecordsAreReplayed, FirstRow, RedoRow, RefusalRow, MergingRow, SheetRow, LoadRow}
+use Rattle.job_register.specs.Replay.{record_from, LegalRecordsAreReplayed, FirstRow, RedoRow, RefusalRow, MergingRow, SheetRow, LoadRow, DeleteRow, BadRow, FullRow, RisingRow, RisingText}
 
 replayed_from : (s : State) (es : List Event) → IsLegalFrom s es → es ≡ record_from s (commands_in es)
 replayed_from s [] legal = refl
@@ -45,3 +52,30 @@ sheet_row = refl
 pub load_row : LoadRow
 unfolding first_state add_of direction_of cuts_of parts_of delete_of set_of merge_of is_loose next_piece merged_from sheet_of load_of
 load_row = refl
+
+pub delete_row : DeleteRow
+unfolding first_state add_of direction_of cuts_of parts_of delete_of set_of merge_of is_loose next_piece merged_from sheet_of load_of
+delete_row = refl
+
+pub bad_row : BadRow
+unfolding first_state add_of direction_of cuts_of parts_of delete_of set_of merge_of is_loose next_piece merged_from sheet_of load_of
+bad_row = refl
+
+pub full_row : FullRow
+full_row s =
+    elim (cases_eq (length s.journal.versions - 1) greatest_version) [
+      | inl last ↦
+          let test : nat_eq (length s.journal.versions - 1) greatest_version ≡ true = grind (arith, nat_tests) in
+          rw test ((λ e. last), (λ e. refl))
+      | inr room ↦
+          let test : nat_eq (length s.journal.versions - 1) greatest_version ≡ false = grind (arith, nat_tests) in
+          rw test ((λ e. cc), (λ e. absurd (room e)))
+    ]
+
+pub rising_row : RisingRow
+unfolding first_state add_of direction_of cuts_of parts_of delete_of set_of merge_of is_loose next_piece merged_from sheet_of load_of
+rising_row = refl
+
+pub rising_text : RisingText
+unfolding first_state add_of direction_of cuts_of parts_of delete_of set_of merge_of is_loose next_piece merged_from sheet_of load_of number_text magnitude_text line_text digits
+rising_text = refl

@@ -1,12 +1,17 @@
 -- The record that the machine makes of a list of commands.
-use Rattle.std.specs.Prelude.{◌≡◌, ℕ, pos, negsuc, List, [], ◌∷◌, map}
+use Rattle.std.specs.Prelude.{◌≡◌, ◌↔◌, ℕ, pos, negsuc, List, [], ◌∷◌, map, codes}
+use Rattle.std.proofs.Common.{arith}
+use Rattle.surd_number.specs.declared.Surd.{Surd}
+use Rattle.surd_number.specs.Stored.{IsStored}
+use Rattle.surd_number.specs.Whole.{whole_surd}
 use Rattle.plane_geometry.specs.declared.Point.{Point}
 use Rattle.script_lang.specs.declared.command.Command.{Command}
-use Rattle.script_lang.specs.declared.command.Command.TheVariants.{Add, Delete, Set, Merge, Clear, Sheet, Load, Undo, Redo, List as ListCommand}
+use Rattle.script_lang.specs.declared.command.Command.TheVariants.{Add, Delete, Set, Merge, Clear, Sheet, Load, Undo, Redo, List as ListCommand, Bad}
 use Rattle.crease_model.specs.declared.Kind.TheVariants.{Edge, Mountain, Valley}
 use Rattle.crease_model.specs.Sheet.{whole_point}
 use Rattle.crease_store.specs.declared.faults.StoreRefusal.TheVariants.{BadDirection}
 use Rattle.crease_store.specs.declared.loading.LoadLine.{LoadLine}
+use Rattle.cp_text.specs.declared.line.LineFault.TheVariants as line_fault
 use Rattle.script_lang.specs.declared.block.LoadStop.TheVariants.{Ended, Unended}
 use Rattle.script_lang.specs.declared.reply.LoadCause.TheVariants as cause
 use Rattle.script_lang.specs.declared.reply.Reply.{Reply}
@@ -14,8 +19,10 @@ use Rattle.script_lang.specs.declared.reply.Reply.TheVariants.{Version, Listed, 
 use Rattle.script_lang.specs.declared.reply.Refusal.TheVariants as refusal
 use Rattle.job_register.specs.declared.session.Event.{Event}
 use Rattle.job_register.specs.declared.session.Event.TheVariants.{Made}
+use Rattle.undo_journal.specs.Versions.{greatest_version, greatest_of}
 use Rattle.job_register.specs.Machine.{State, first_state, answer}
 use Rattle.job_register.specs.Legal.{IsLegal, commands_in, reply_in}
+use Rattle.job_register.specs.Text.{text_of}
 
 abbrev pub record_from : State → List Command → List Event
 record_from s [] = []
@@ -89,3 +96,41 @@ LoadRow =
     ∷ Load (line_of 1 (whole_point (pos 0) (negsuc 199)) (whole_point (pos 0) (pos 200)) ∷ []) Unended
     ∷ Load (line_of 1 (whole_point (pos 0) (negsuc 199)) (whole_point (pos 0) (pos 200)) ∷ []) Ended ∷ [])
     ≡ Refused (refusal.LoadLine 2 (cause.Add BadDirection)) ∷ Refused refusal.LoadUnended ∷ Version 1 1 ∷ []
+
+-- a piece that is taken away is there no more
+abbrev pub DeleteRow : Type 0
+DeleteRow =
+    replies_to (mountain
+    ∷ Delete (whole_point (pos 0) (pos 200)) (whole_point (pos 0) (negsuc 199))
+    ∷ Delete (whole_point (pos 0) (pos 200)) (whole_point (pos 0) (negsuc 199)) ∷ [])
+    ≡ Version 1 1 ∷ Version 2 0 ∷ Refused refusal.NoSuchPiece ∷ []
+
+-- a bad line is refused by its fault, and changes nothing
+abbrev pub BadRow : Type 0
+BadRow =
+    replies_to (mountain ∷ Bad line_fault.UnknownWord ∷ Bad (line_fault.NotExact 2) ∷ ListCommand ∷ [])
+    ≡ Version 1 1 ∷ Refused refusal.UnknownWord ∷ Refused (refusal.NotExact 2) ∷ Listed 1 1 ∷ []
+
+-- a change that is not refused otherwise is refused exactly where the last version number is taken, in any state
+abbrev pub FullRow : Type 0
+FullRow = (s : State) → ((answer s Clear).reply ≡ Refused refusal.Full) ↔ (greatest_of s.journal ≡ greatest_version)
+
+pub root_height_is_stored : IsStored (record { a = negsuc 599; b = pos 400; k = 0 })
+root_height_is_stored = (λ y _. omega arith, (omega arith, omega arith, omega arith))
+
+-- -600 + 400 * sqrt 2
+abbrev pub root_height : Surd
+root_height = record { a = negsuc 599; b = pos 400; k = 0; stored = root_height_is_stored }
+
+-- the mountain from the least corner at 22.5 degrees
+abbrev pub rising : Command
+rising = Add Mountain (whole_point (negsuc 199) (negsuc 199)) (record { x = whole_surd (pos 200); y = root_height })
+
+-- its replies, and the whole text of the record
+abbrev pub RisingRow : Type 0
+RisingRow = replies_to (rising ∷ ListCommand ∷ []) ≡ Version 1 1 ∷ Listed 1 1 ∷ []
+
+abbrev pub RisingText : Type 0
+RisingText =
+    text_of (record_of (rising ∷ ListCommand ∷ []))
+    ≡ codes "version 1 pieces 1\nlist 1 1\n1 -200 -200 200 -200\n1 200 -200 200 200\n1 200 200 -200 200\n1 -200 200 -200 -200\n2 -200 -200 200 -600+400r2\n"

@@ -9,7 +9,7 @@ ghost use Rattle.crease_model.specs.Rules.{size_of};
 ghost use Rattle.crease_store.specs.Answer.{IsAnswer, refusal_of};
 ghost use Rattle.crease_store.specs.Loading.{load_of};
 ghost use Rattle.script_lang.specs.Script.{meets_condition};
-ghost use Rattle.job_register.specs.Machine.{answer, changed, moved, current_pattern_of, committed_answer, sheet_answer, load_answer, stopped};
+ghost use Rattle.job_register.specs.Machine.{answer, change_answer, version_answer, current_pattern_of, committed_answer, sheet_answer, load_answer, stop_answer};
 
 use crease_model::{Pattern, Sheet, SheetFault};
 use crease_store::{LoadStoreFault, StoreFault, add, clear, delete, load, merge, set_kind};
@@ -30,7 +30,7 @@ fn current_version(journal: &Journal) -> (u32, u32)
 }
 
 fn version_reply(journal: &Journal) -> Reply
-    ensures { result ≡ (moved journal.now).reply }
+    ensures { result ≡ (version_answer journal.now).reply }
 {
     let (version, pieces) = current_version(journal);
     Reply::Version { version, pieces }
@@ -56,7 +56,7 @@ fn commit_change(
     change: Result<Pattern, StoreFault>,
 ) -> Result<Reply, AllocError>
     ensures ok { IfOk result (λ reply. (defined : Result PatternView StoreRefusal) → IsAnswer change defined
-        → record { reply = reply; state = record { journal = journal.new } } ≡ changed (record { journal = journal.old }) defined) }
+        → record { reply = reply; state = record { journal = journal.new } } ≡ change_answer (record { journal = journal.old }) defined) }
     ensures err { OnErr result (journal.new ≡ journal.old) }
 {
     match change {
@@ -87,7 +87,7 @@ fn new_sheet(alloc: Global, journal: &mut Journal, corners: &Corners) -> Result<
 // Commits a block that is all added, by how it ends.
 fn stop(journal: &mut Journal, pattern: Pattern, end: LoadStop) -> Result<Reply, AllocError>
     ensures ok { IfOk result (λ reply. record { reply = reply; state = record { journal = journal.new } }
-        ≡ stopped (record { journal = journal.old }) end pattern) }
+        ≡ stop_answer (record { journal = journal.old }) end pattern) }
     ensures err { OnErr result (journal.new ≡ journal.old) }
 {
     match end {

@@ -5,7 +5,7 @@ ghost use Rattle.script_lang.specs.Script.{meets_condition};
 ghost use Rattle.job_register.specs.Legal.{is_refusal};
 
 use crate::answering::answer_command;
-use cp_text::write_pattern;
+use cp_text::{all_or_nothing, write_pattern};
 use crease_model::{Pattern, Sheet};
 use script_lang::{Command, Reply, write_head};
 use std::alloc::{AllocError, Global};
@@ -84,6 +84,7 @@ impl Session {
     ghost use Rattle.job_register.specs.Machine.{answer};
     ghost use Rattle.job_register.specs.Legal.{IsLegal, state_after, commands_in, has_refusal};
     ghost use Rattle.undo_journal.specs.Versions.{pattern_at};
+    ghost use Rattle.job_register.specs.RecordVersions.{KeepsVersions};
     ghost use Rattle.job_register.specs.Text.{text_of, reply_text, body_text, listing_text, checks_text};
 
     /// A session over version 0, the square sheet with nothing on it.
@@ -99,7 +100,8 @@ impl Session {
         })
     }
 
-    /// Answers a command, and adds it with its reply to the record. Without memory the session stays as it was.
+    /// Answers a command, and adds it with its reply to the record. Each version keeps its pattern. Without memory the
+    /// session stays as it was.
     pub fn step(&mut self, alloc: Global, command: Command) -> Result<Reply, AllocError>
         requires { IsTrue (meets_condition command) }
         ensures reply { IfOk result (λ reply. reply ≡ (answer (state_after self.old) command).reply) }
@@ -108,6 +110,7 @@ impl Session {
         ensures text { IfOk result (λ reply. text_of self.new ≡ text_of self.old ++ reply_text (state_after self.new) reply) }
         ensures commands { OnOk result (commands_in self.new ≡ commands_in self.old ++ command ∷ []) }
         ensures refusals { IfOk result (λ reply. has_refusal self.new ≡ (has_refusal self.old || is_refusal reply)) }
+        ensures versions { KeepsVersions self.old self.new }
         ensures err { OnErr result (self.new ≡ self.old) }
     {
         self.record.list.reserve(1)?;
@@ -129,10 +132,7 @@ impl Session {
         let before = out.len();
         write_head(out, reply)?;
         let written = self.write_body(out, reply);
-        if written.is_err() {
-            out.truncate(before);
-        }
-        written
+        all_or_nothing(out, before, written)
     }
 
     fn write_body(&self, out: &mut Vec<u8>, reply: &Reply) -> Result<(), AllocError>

@@ -10,12 +10,12 @@ use Rattle.cp_text.specs.declared.line.CpLine.{CpLine}
 use Rattle.cp_text.specs.declared.line.Ends.{Ends}
 use Rattle.cp_text.specs.declared.line.LineFault.{LineFault}
 use Rattle.cp_text.specs.Digits.{is_digits}
-use Rattle.cp_text.specs.Words.{words_of}
+use Rattle.cp_text.specs.Words.{longest_line, words_of}
 use Rattle.cp_text.specs.LineReading.{kind_of, ends_read, line_read}
 use Rattle.script_lang.specs.declared.block.LoadStop.TheVariants.{Unended}
 use Rattle.script_lang.specs.declared.command.Command.{Command}
 use Rattle.script_lang.specs.declared.command.Command.TheVariants.{Merge, Clear, Load, Undo, Redo, List as ListCommand, Check}
-use Rattle.script_lang.specs.Judged.{line_command, alone, delete_between, set_kind, set_words, points_read, sheet_of, is_sheet_count, sheet_words, word_command, judged_words, judged}
+use Rattle.script_lang.specs.Judged.{line_command, alone, delete_between, set_kind, set_words, points_read, sheet_command, is_sheet_count, sheet_words, word_command, words_command, command_of}
 use Rattle.script_lang.specs.Script.{meets_condition}
 
 abbrev Meets : Command → Type 0
@@ -50,7 +50,7 @@ set_line : (words : List (List ℕ)) → Meets (set_words words)
 set_line [] = refl
 set_line (kind ∷ words) = either (nat_eq (length words) 4) _ _ (set (kind_of kind) (ends_read 2 words)) refl
 
-corners : (points : Result (List Point) LineFault) → Meets (sheet_of points)
+corners : (points : Result (List Point) LineFault) → Meets (sheet_command points)
 corners (Ok points) = refl
 corners (Err fault) = refl
 
@@ -71,11 +71,11 @@ word_meets word words =
     (either (bytes_eq word (codes "check")) _ _ (by_itself Check words refl)
     refl)))))))))
 
-words_meet : (l : List ℕ) (words : List (List ℕ)) → IfSome (judged_words l words) Meets
+words_meet : (l : List ℕ) (words : List (List ℕ)) → IfSome (words_command l words) Meets
 words_meet l [] = tt
 words_meet l (word ∷ words) =
     either (is_digits word) _ _ (line (line_read l))
-    (either (nat_lt 1000 (length l)) _ _ refl (word_meets word words))
+    (either (nat_lt longest_line (length l)) _ _ refl (word_meets word words))
 
-pub judged_meets : (l : List ℕ) → IfSome (judged l) (λ command. IsTrue (meets_condition command))
+pub judged_meets : (l : List ℕ) → IfSome (command_of l) (λ command. IsTrue (meets_condition command))
 judged_meets l = words_meet l (words_of l)

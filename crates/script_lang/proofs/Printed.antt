@@ -7,13 +7,13 @@ use Rattle.cp_text.specs.declared.line.CpLine.{CpLine}
 use Rattle.cp_text.specs.declared.line.LineFault.{LineFault}
 use Rattle.cp_text.specs.declared.line.LineFault.TheVariants.{LongLine, UnknownWord}
 use Rattle.cp_text.specs.Digits.{is_digits}
-use Rattle.cp_text.specs.Words.{words_of, bare_lines}
+use Rattle.cp_text.specs.Words.{longest_line, words_of, bare_lines}
 use Rattle.cp_text.specs.LineText.{line_body, pattern_lines, pattern_text}
 use Rattle.cp_text.specs.LineReading.{kind_of, kind_line, words_line, line_read}
 use Rattle.cp_text.specs.Laws.{LinesReadBack, PatternsArePartedByLines}
 use Rattle.script_lang.specs.declared.block.LoadStop.TheVariants.{Ended}
 use Rattle.script_lang.specs.declared.command.Command.TheVariants.{Load}
-use Rattle.script_lang.specs.Script.{is_only, is_end, unless_blank, block_read, numbered, lines_before, load_of, commands_from, commands_of}
+use Rattle.script_lang.specs.Script.{is_only, is_end_line, unless_blank, block_read, numbered, lines_before, block_command, commands_from, commands_of}
 use Rattle.script_lang.specs.Laws.{has_no_end, is_good, are_good, numbered_lines, PrintedPatternsAreLoaded}
 use Rattle.script_lang.proofs.Scripts.{blocks_are_one_command, good_lines_are_loaded}
 
@@ -45,12 +45,12 @@ and_false false c h = refl
 
 read_some : (bytes : List ℕ) (line : CpLine) → line_read bytes ≡ Ok line → block_read bytes ≡ Some (Ok line)
 unfolding line_read
-read_some bytes line h = with_words (nat_lt 1000 (length bytes)) (words_of bytes) line (line_read bytes) h ∙ ap Some h
+read_some bytes line h = with_words (nat_lt longest_line (length bytes)) (words_of bytes) line (line_read bytes) h ∙ ap Some h
 
-no_end : (bytes : List ℕ) (line : CpLine) → line_read bytes ≡ Ok line → is_end bytes ≡ false
+no_end : (bytes : List ℕ) (line : CpLine) → line_read bytes ≡ Ok line → is_end_line bytes ≡ false
 unfolding line_read
 no_end bytes line h =
-    and_false (nat_le (length bytes) 1000) (is_only (codes "end") (words_of bytes)) (not_only (nat_lt 1000 (length bytes)) (codes "end") (words_of bytes) line h)
+    and_false (nat_le (length bytes) longest_line) (is_only (codes "end") (words_of bytes)) (not_only (nat_lt longest_line (length bytes)) (codes "end") (words_of bytes) line h)
 
 -- ---- printed lines
 
@@ -82,7 +82,7 @@ block_lines parted p rest =
     load_line (pattern_text p ++ (codes "end\n" ++ rest))
     ∙ ap (λ ls. codes "load" ∷ ls) (parted p (codes "end\n" ++ rest) ∙ ap (λ ls. map line_body (pattern_lines p) ++ ls) (end_line rest))
 
-loaded : LinesReadBack → (lines : List CpLine) → load_of (map line_body lines) Ended ≡ Load (numbered_lines 1 lines) Ended
+loaded : LinesReadBack → (lines : List CpLine) → block_command (map line_body lines) Ended ≡ Load (numbered_lines 1 lines) Ended
 loaded r lines = good_lines_are_loaded (map line_body lines) Ended (all_good r lines) ∙ ap (λ ls. Load ls Ended) (numbers r lines 1)
 
 pub printed_patterns_are_loaded : LinesReadBack → PatternsArePartedByLines → PrintedPatternsAreLoaded

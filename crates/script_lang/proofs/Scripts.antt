@@ -10,8 +10,8 @@ use Rattle.script_lang.specs.declared.block.LoadStop.{LoadStop}
 use Rattle.script_lang.specs.declared.block.LoadStop.TheVariants.{Ended, Bad, Unended}
 use Rattle.script_lang.specs.declared.command.Command.{Command}
 use Rattle.script_lang.specs.declared.command.Command.TheVariants.{Load}
-use Rattle.script_lang.specs.Judged.{judged}
-use Rattle.script_lang.specs.Script.{is_load, is_end, inside_of, ending_of, block_read, lines_before, stop_at, numbered, load_of, block_of, commands_from}
+use Rattle.script_lang.specs.Judged.{command_of}
+use Rattle.script_lang.specs.Script.{is_load_line, is_end_line, inside_of, ending_of, block_read, lines_before, stop_at, numbered, block_command, block_of, commands_from}
 use Rattle.script_lang.specs.Laws.{has_no_load, has_no_end, is_good, are_good, PlainLinesAreJudged, BlocksAreOneCommand, OpenBlocksAreOneCommand, FirstBadLineStops, GoodLinesAreLoaded}
 
 both : (b c : Bool) → IsTrue (not b && c) → (b ≡ false) × IsTrue c
@@ -23,36 +23,36 @@ cons_option-append None xs ys = refl
 cons_option-append (Some x) xs ys = refl
 
 -- the lines before any block are judged one by one
-plain : (before rest : List (List ℕ)) → IsTrue (has_no_load before) → commands_from false (before ++ rest) ≡ filter_map judged before ++ commands_from false rest
+plain : (before rest : List (List ℕ)) → IsTrue (has_no_load before) → commands_from false (before ++ rest) ≡ filter_map command_of before ++ commands_from false rest
 plain [] rest h = refl
 plain (line ∷ lines) rest h =
-    let here = both (is_load line) (has_no_load lines) h in
-    ap (λ b. cond b (block_of (lines ++ rest) ∷ commands_from true (lines ++ rest)) (cons_option (judged line) (commands_from false (lines ++ rest)))) here.0
-    ∙ ap (cons_option (judged line)) (plain lines rest here.1)
-    ∙ cons_option-append (judged line) (filter_map judged lines) (commands_from false rest)
+    let here = both (is_load_line line) (has_no_load lines) h in
+    ap (λ b. cond b (block_of (lines ++ rest) ∷ commands_from true (lines ++ rest)) (cons_option (command_of line) (commands_from false (lines ++ rest)))) here.0
+    ∙ ap (cons_option (command_of line)) (plain lines rest here.1)
+    ∙ cons_option-append (command_of line) (filter_map command_of lines) (commands_from false rest)
 
-begun : (load : List ℕ) (lines : List (List ℕ)) → IsTrue (is_load load) → commands_from false (load ∷ lines) ≡ block_of lines ∷ commands_from true lines
-begun load lines h = ap (λ b. cond b (block_of lines ∷ commands_from true lines) (cons_option (judged load) (commands_from false lines))) h
+begun : (load : List ℕ) (lines : List (List ℕ)) → IsTrue (is_load_line load) → commands_from false (load ∷ lines) ≡ block_of lines ∷ commands_from true lines
+begun load lines h = ap (λ b. cond b (block_of lines ∷ commands_from true lines) (cons_option (command_of load) (commands_from false lines))) h
 
 -- ---- a block with its `end`
 
-inside_ended : (inside behind : List (List ℕ)) (end : List ℕ) → IsTrue (has_no_end inside) → IsTrue (is_end end) → inside_of (inside ++ end ∷ behind) ≡ inside
+inside_ended : (inside behind : List (List ℕ)) (end : List ℕ) → IsTrue (has_no_end inside) → IsTrue (is_end_line end) → inside_of (inside ++ end ∷ behind) ≡ inside
 inside_ended [] behind end h e = ap (λ b. cond b [] (end ∷ inside_of behind)) e
 inside_ended (line ∷ lines) behind end h e =
-    let here = both (is_end line) (has_no_end lines) h in
+    let here = both (is_end_line line) (has_no_end lines) h in
     ap (λ b. cond b [] (line ∷ inside_of (lines ++ end ∷ behind))) here.0
     ∙ ap (λ ls. line ∷ ls) (inside_ended lines behind end here.1 e)
 
-ending_ended : (inside behind : List (List ℕ)) (end : List ℕ) → IsTrue (has_no_end inside) → IsTrue (is_end end) → ending_of (inside ++ end ∷ behind) ≡ Ended
+ending_ended : (inside behind : List (List ℕ)) (end : List ℕ) → IsTrue (has_no_end inside) → IsTrue (is_end_line end) → ending_of (inside ++ end ∷ behind) ≡ Ended
 ending_ended [] behind end h e = ap (λ b. cond b Ended (ending_of behind)) e
 ending_ended (line ∷ lines) behind end h e =
-    let here = both (is_end line) (has_no_end lines) h in
+    let here = both (is_end_line line) (has_no_end lines) h in
     ap (λ b. cond b Ended (ending_of (lines ++ end ∷ behind))) here.0 ∙ ending_ended lines behind end here.1 e
 
-behind_ended : (inside behind : List (List ℕ)) (end : List ℕ) → IsTrue (has_no_end inside) → IsTrue (is_end end) → commands_from true (inside ++ end ∷ behind) ≡ commands_from false behind
+behind_ended : (inside behind : List (List ℕ)) (end : List ℕ) → IsTrue (has_no_end inside) → IsTrue (is_end_line end) → commands_from true (inside ++ end ∷ behind) ≡ commands_from false behind
 behind_ended [] behind end h e = ap (λ b. commands_from (not b) behind) e
 behind_ended (line ∷ lines) behind end h e =
-    let here = both (is_end line) (has_no_end lines) h in
+    let here = both (is_end_line line) (has_no_end lines) h in
     ap (λ b. commands_from (not b) (lines ++ end ∷ behind)) here.0 ∙ behind_ended lines behind end here.1 e
 
 -- ---- a block without `end`
@@ -60,34 +60,34 @@ behind_ended (line ∷ lines) behind end h e =
 inside_open : (inside : List (List ℕ)) → IsTrue (has_no_end inside) → inside_of inside ≡ inside
 inside_open [] h = refl
 inside_open (line ∷ lines) h =
-    let here = both (is_end line) (has_no_end lines) h in
+    let here = both (is_end_line line) (has_no_end lines) h in
     ap (λ b. cond b [] (line ∷ inside_of lines)) here.0 ∙ ap (λ ls. line ∷ ls) (inside_open lines here.1)
 
 ending_open : (inside : List (List ℕ)) → IsTrue (has_no_end inside) → ending_of inside ≡ Unended
 ending_open [] h = refl
 ending_open (line ∷ lines) h =
-    let here = both (is_end line) (has_no_end lines) h in
+    let here = both (is_end_line line) (has_no_end lines) h in
     ap (λ b. cond b Ended (ending_of lines)) here.0 ∙ ending_open lines here.1
 
 behind_open : (inside : List (List ℕ)) → IsTrue (has_no_end inside) → commands_from true inside ≡ []
 behind_open [] h = refl
 behind_open (line ∷ lines) h =
-    let here = both (is_end line) (has_no_end lines) h in
+    let here = both (is_end_line line) (has_no_end lines) h in
     ap (λ b. commands_from (not b) lines) here.0 ∙ behind_open lines here.1
 
 -- ---- the laws of whole scripts
 
-block_is : (lines inside : List (List ℕ)) (ending : LoadStop) → inside_of lines ≡ inside → ending_of lines ≡ ending → block_of lines ≡ load_of inside ending
-block_is lines inside ending h e = ap (λ ls. load_of ls (ending_of lines)) h ∙ ap (load_of inside) e
+block_is : (lines inside : List (List ℕ)) (ending : LoadStop) → inside_of lines ≡ inside → ending_of lines ≡ ending → block_of lines ≡ block_command inside ending
+block_is lines inside ending h e = ap (λ ls. block_command ls (ending_of lines)) h ∙ ap (block_command inside) e
 
 then_load : (before lines inside : List (List ℕ)) (load : List ℕ) (ending : LoadStop) (behind : List Command)
-    → IsTrue (has_no_load before) → IsTrue (is_load load)
+    → IsTrue (has_no_load before) → IsTrue (is_load_line load)
     → inside_of lines ≡ inside → ending_of lines ≡ ending → commands_from true lines ≡ behind
-    → commands_from false (before ++ load ∷ lines) ≡ filter_map judged before ++ load_of inside ending ∷ behind
+    → commands_from false (before ++ load ∷ lines) ≡ filter_map command_of before ++ block_command inside ending ∷ behind
 then_load before lines inside load ending behind none begins h e b =
     plain before (load ∷ lines) none
-    ∙ ap (λ cs. filter_map judged before ++ cs)
-    (begun load lines begins ∙ ap (λ c. c ∷ commands_from true lines) (block_is lines inside ending h e) ∙ ap (λ cs. load_of inside ending ∷ cs) b)
+    ∙ ap (λ cs. filter_map command_of before ++ cs)
+    (begun load lines begins ∙ ap (λ c. c ∷ commands_from true lines) (block_is lines inside ending h e) ∙ ap (λ cs. block_command inside ending ∷ cs) b)
 
 pub blocks_are_one_command : BlocksAreOneCommand
 blocks_are_one_command before inside behind load end none begins inner ends =
@@ -104,7 +104,7 @@ pub plain_lines_are_judged : PlainLinesAreJudged
 plain_lines_are_judged bytes h =
     ap (commands_from false) (sym (append-nil (bare_lines bytes)))
     ∙ plain (bare_lines bytes) [] h
-    ∙ append-nil (filter_map judged (bare_lines bytes))
+    ∙ append-nil (filter_map command_of (bare_lines bytes))
 
 -- ---- the laws of blocks
 

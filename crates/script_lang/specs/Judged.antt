@@ -10,7 +10,7 @@ use Rattle.cp_text.specs.declared.line.Ends.{Ends}
 use Rattle.cp_text.specs.declared.line.LineFault.{LineFault}
 use Rattle.cp_text.specs.declared.line.LineFault.TheVariants.{LongLine, UnknownWord, BadKind, WrongCount}
 use Rattle.cp_text.specs.Digits.{is_digits}
-use Rattle.cp_text.specs.Words.{words_of}
+use Rattle.cp_text.specs.Words.{longest_line, words_of}
 use Rattle.cp_text.specs.LineReading.{kind_of, point_read, ends_read, line_read}
 use Rattle.script_lang.specs.declared.block.LoadStop.TheVariants.{Unended}
 use Rattle.script_lang.specs.declared.command.Command.{Command}
@@ -48,23 +48,23 @@ set_words (kind ∷ words) = if nat_eq (length words) 4 then set_kind (kind_of k
 abbrev pub is_sheet_count : ℕ → Bool
 is_sheet_count n = nat_le 6 n && nat_le n 32 && nat_eq (n % 2) 0
 
-abbrev pub with_point : Result Point LineFault → Result (List Point) LineFault → Result (List Point) LineFault
-with_point (Ok point) (Ok points) = Ok (point ∷ points)
-with_point (Ok point) (Err fault) = Err fault
-with_point (Err fault) points = Err fault
+abbrev pub point_before : Result Point LineFault → Result (List Point) LineFault → Result (List Point) LineFault
+point_before (Ok point) (Ok points) = Ok (point ∷ points)
+point_before (Ok point) (Err fault) = Err fault
+point_before (Err fault) points = Err fault
 
 -- the points of pairs of coordinates, the first of them at this place
 abbrev pub points_read : ℕ → List (List ℕ) → Result (List Point) LineFault
 points_read place [] = Ok []
 points_read place (x ∷ []) = Err WrongCount
-points_read place (x ∷ y ∷ words) = with_point (point_read place x y) (points_read (place + 2) words)
+points_read place (x ∷ y ∷ words) = point_before (point_read place x y) (points_read (place + 2) words)
 
-abbrev pub sheet_of : Result (List Point) LineFault → Command
-sheet_of (Ok points) = Sheet points
-sheet_of (Err fault) = Bad fault
+abbrev pub sheet_command : Result (List Point) LineFault → Command
+sheet_command (Ok points) = Sheet points
+sheet_command (Err fault) = Bad fault
 
 abbrev pub sheet_words : List (List ℕ) → Command
-sheet_words words = if is_sheet_count (length words) then sheet_of (points_read 1 words) else Bad WrongCount
+sheet_words words = if is_sheet_count (length words) then sheet_command (points_read 1 words) else Bad WrongCount
 
 -- a line `load` by itself is a block without lines and without its end
 abbrev pub word_command : List ℕ → List (List ℕ) → Command
@@ -82,13 +82,13 @@ word_command word words =
     else Bad UnknownWord
 
 -- by the first word: a kind, or a command's word. A line of more than 1,000 bytes is not judged further.
-abbrev pub judged_words : List ℕ → List (List ℕ) → Option Command
-judged_words line [] = None
-judged_words line (word ∷ words) = Some (
+abbrev pub words_command : List ℕ → List (List ℕ) → Option Command
+words_command line [] = None
+words_command line (word ∷ words) = Some (
     if is_digits word then line_command (line_read line)
-    else if nat_lt 1000 (length line) then Bad LongLine
+    else if nat_lt longest_line (length line) then Bad LongLine
     else word_command word words)
 
 -- a line without words is blank, however long it is
-abbrev pub judged : List ℕ → Option Command
-judged line = judged_words line (words_of line)
+abbrev pub command_of : List ℕ → Option Command
+command_of line = words_command line (words_of line)

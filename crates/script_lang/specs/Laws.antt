@@ -5,7 +5,7 @@ use Rattle.std.specs.declared.result.Result.{Result}
 use Rattle.crease_model.specs.View.{PatternView}
 use Rattle.crease_model.specs.Rules.{IsPattern}
 use Rattle.crease_model.specs.Sheet.{is_sheet}
-use Rattle.crease_store.specs.Loading.{load_of as pattern_loaded}
+use Rattle.crease_store.specs.Loading.{load_of}
 use Rattle.crease_store.specs.declared.loading.LoadLine.{LoadLine}
 use Rattle.cp_text.specs.declared.line.CpLine.{CpLine}
 use Rattle.cp_text.specs.declared.line.LineFault.{LineFault}
@@ -14,36 +14,36 @@ use Rattle.cp_text.specs.LineText.{pattern_lines, pattern_text}
 use Rattle.script_lang.specs.declared.block.LoadStop.{LoadStop}
 use Rattle.script_lang.specs.declared.block.LoadStop.TheVariants.{Ended, Bad, Unended}
 use Rattle.script_lang.specs.declared.command.Command.TheVariants.{Load}
-use Rattle.script_lang.specs.Judged.{judged}
-use Rattle.script_lang.specs.Script.{is_load, is_end, block_read, numbered, lines_before, load_of, commands_from, commands_of}
+use Rattle.script_lang.specs.Judged.{command_of}
+use Rattle.script_lang.specs.Script.{is_load_line, is_end_line, block_read, numbered, lines_before, block_command, commands_from, commands_of}
 
 -- no line begins a block
 abbrev pub has_no_load : List (List ℕ) → Bool
-has_no_load lines = list_all (λ line. not (is_load line)) lines
+has_no_load lines = list_all (λ line. not (is_load_line line)) lines
 
 -- no line ends a block
 abbrev pub has_no_end : List (List ℕ) → Bool
-has_no_end lines = list_all (λ line. not (is_end line)) lines
+has_no_end lines = list_all (λ line. not (is_end_line line)) lines
 
 -- the commands of a script without a line `load` are its judged lines in order, blank ones left out
 abbrev pub PlainLinesAreJudged : Type 0
-PlainLinesAreJudged = (bytes : List ℕ) → IsTrue (has_no_load (bare_lines bytes)) → commands_of bytes ≡ filter_map judged (bare_lines bytes)
+PlainLinesAreJudged = (bytes : List ℕ) → IsTrue (has_no_load (bare_lines bytes)) → commands_of bytes ≡ filter_map command_of (bare_lines bytes)
 
 -- what stands between `load` and the first `end` is one command, after those of the lines before, and before those of
 -- the lines behind
 abbrev pub BlocksAreOneCommand : Type 0
 BlocksAreOneCommand =
     (before inside behind : List (List ℕ)) (load end : List ℕ)
-    → IsTrue (has_no_load before) → IsTrue (is_load load) → IsTrue (has_no_end inside) → IsTrue (is_end end)
+    → IsTrue (has_no_load before) → IsTrue (is_load_line load) → IsTrue (has_no_end inside) → IsTrue (is_end_line end)
     → commands_from false (before ++ load ∷ (inside ++ end ∷ behind))
-    ≡ filter_map judged before ++ load_of inside Ended ∷ commands_from false behind
+    ≡ filter_map command_of before ++ block_command inside Ended ∷ commands_from false behind
 
 -- without an `end` the block is all that follows `load`
 abbrev pub OpenBlocksAreOneCommand : Type 0
 OpenBlocksAreOneCommand =
     (before inside : List (List ℕ)) (load : List ℕ)
-    → IsTrue (has_no_load before) → IsTrue (is_load load) → IsTrue (has_no_end inside)
-    → commands_from false (before ++ load ∷ inside) ≡ filter_map judged before ++ load_of inside Unended ∷ []
+    → IsTrue (has_no_load before) → IsTrue (is_load_line load) → IsTrue (has_no_end inside)
+    → commands_from false (before ++ load ∷ inside) ≡ filter_map command_of before ++ block_command inside Unended ∷ []
 
 abbrev pub is_good : Option (Result CpLine LineFault) → Bool
 is_good None = true
@@ -59,17 +59,17 @@ abbrev pub FirstBadLineStops : Type 0
 FirstBadLineStops =
     (good rest : List (List ℕ)) (line : List ℕ) (fault : LineFault) (ending : LoadStop)
     → IsTrue (are_good good) → block_read line ≡ Some (Err fault)
-    → load_of (good ++ line ∷ rest) ending ≡ Load (lines_before 1 (map block_read good)) (Bad (length good + 1) fault)
+    → block_command (good ++ line ∷ rest) ending ≡ Load (lines_before 1 (map block_read good)) (Bad (length good + 1) fault)
 
 -- without a bad line a block stops as it ends
 abbrev pub GoodLinesAreLoaded : Type 0
 GoodLinesAreLoaded =
     (lines : List (List ℕ)) (ending : LoadStop) → IsTrue (are_good lines)
-    → load_of lines ending ≡ Load (lines_before 1 (map block_read lines)) ending
+    → block_command lines ending ≡ Load (lines_before 1 (map block_read lines)) ending
 
 -- a script of one line is that line judged by itself, `load` among them
 abbrev pub SingleLinesAreJudged : Type 0
-SingleLinesAreJudged = (line : List ℕ) → commands_from false (line ∷ []) ≡ option_to_list (judged line)
+SingleLinesAreJudged = (line : List ℕ) → commands_from false (line ∷ []) ≡ option_to_list (command_of line)
 
 -- lines with their numbers, the first of them with this one
 abbrev pub numbered_lines : ℕ → List CpLine → List LoadLine
@@ -87,7 +87,7 @@ PrintedPatternsAreLoaded =
 pub record ComesBack (p other : PatternView) (rest : List ℕ) : Type 0 where
   pub lines : List LoadLine
   pub command : commands_of (codes "load\n" ++ (pattern_text p ++ (codes "end\n" ++ rest))) ≡ Load lines Ended ∷ commands_of rest
-  pub loaded : pattern_loaded other lines ≡ Ok p
+  pub loaded : load_of other lines ≡ Ok p
 
 -- each pattern's text does so where its sheet is in force, whatever stands on it
 abbrev pub PrintedPatternsComeBack : Type 0

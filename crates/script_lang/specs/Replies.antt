@@ -76,13 +76,13 @@ abbrev pub refusal_cause : Refusal → Option LoadCause
 refusal_cause (LoadLine number cause) = Some cause
 refusal_cause refusal = None
 
-abbrev pub number_text : Option ℕ → List ℕ
-number_text None = []
-number_text (Some n) = codes " " ++ decimal n
+abbrev pub number_part : Option ℕ → List ℕ
+number_part None = []
+number_part (Some n) = codes " " ++ decimal n
 
 -- the word and the number
 abbrev pub plain_text : Refusal → List ℕ
-plain_text refusal = refusal_word refusal ++ number_text (refusal_number refusal)
+plain_text refusal = refusal_word refusal ++ number_part (refusal_number refusal)
 
 -- the refusal that the line itself would have
 abbrev pub cause_text : Option LoadCause → List ℕ

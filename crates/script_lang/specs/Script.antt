@@ -7,13 +7,13 @@ use Rattle.crease_model.specs.Rules.{is_crease_kind}
 use Rattle.crease_store.specs.declared.loading.LoadLine.{LoadLine}
 use Rattle.cp_text.specs.declared.line.CpLine.{CpLine}
 use Rattle.cp_text.specs.declared.line.LineFault.{LineFault}
-use Rattle.cp_text.specs.Words.{words_of, bare_lines}
+use Rattle.cp_text.specs.Words.{longest_line, words_of, bare_lines}
 use Rattle.cp_text.specs.LineReading.{line_read}
 use Rattle.script_lang.specs.declared.block.LoadStop.{LoadStop}
 use Rattle.script_lang.specs.declared.block.LoadStop.TheVariants.{Ended, Bad, Unended}
 use Rattle.script_lang.specs.declared.command.Command.{Command}
 use Rattle.script_lang.specs.declared.command.Command.TheVariants.{Set, Load}
-use Rattle.script_lang.specs.Judged.{judged}
+use Rattle.script_lang.specs.Judged.{command_of}
 
 -- what each command of a script meets: a piece is set to a mountain or a valley
 abbrev pub meets_condition : Command → Bool
@@ -27,24 +27,24 @@ is_only word (w ∷ []) = bytes_eq w word
 is_only word (w ∷ v ∷ words) = false
 
 -- a line of at most 1,000 bytes that begins a block
-abbrev pub is_load : List ℕ → Bool
-is_load line = nat_le (length line) 1000 && is_only (codes "load") (words_of line)
+abbrev pub is_load_line : List ℕ → Bool
+is_load_line line = nat_le (length line) longest_line && is_only (codes "load") (words_of line)
 
 -- a line of at most 1,000 bytes that ends a block
-abbrev pub is_end : List ℕ → Bool
-is_end line = nat_le (length line) 1000 && is_only (codes "end") (words_of line)
+abbrev pub is_end_line : List ℕ → Bool
+is_end_line line = nat_le (length line) longest_line && is_only (codes "end") (words_of line)
 
 -- ---- blocks
 
 -- the lines before the first `end`
 abbrev pub inside_of : List (List ℕ) → List (List ℕ)
 inside_of [] = []
-inside_of (line ∷ lines) = if is_end line then [] else line ∷ inside_of lines
+inside_of (line ∷ lines) = if is_end_line line then [] else line ∷ inside_of lines
 
 -- whether there is an `end`
 abbrev pub ending_of : List (List ℕ) → LoadStop
 ending_of [] = Unended
-ending_of (line ∷ lines) = if is_end line then Ended else ending_of lines
+ending_of (line ∷ lines) = if is_end_line line then Ended else ending_of lines
 
 abbrev pub unless_blank : List (List ℕ) → Result CpLine LineFault → Option (Result CpLine LineFault)
 unless_blank [] answer = None
@@ -72,22 +72,22 @@ stop_at n (Some (Ok line) ∷ answers) ending = stop_at (n + 1) answers ending
 stop_at n (Some (Err fault) ∷ answers) ending = Bad n fault
 
 -- the command of the lines of a block, blank ones counted
-abbrev pub load_of : List (List ℕ) → LoadStop → Command
-load_of lines ending = Load (lines_before 1 (map block_read lines)) (stop_at 1 (map block_read lines) ending)
+abbrev pub block_command : List (List ℕ) → LoadStop → Command
+block_command lines ending = Load (lines_before 1 (map block_read lines)) (stop_at 1 (map block_read lines) ending)
 
 -- the command of the block that begins with these lines
 abbrev pub block_of : List (List ℕ) → Command
-block_of lines = load_of (inside_of lines) (ending_of lines)
+block_of lines = block_command (inside_of lines) (ending_of lines)
 
 -- ---- whole scripts
 
 -- the commands of lines, in a block or outside. A block is one command, and its lines are no others.
 abbrev pub commands_from : Bool → List (List ℕ) → List Command
 commands_from in_block [] = []
-commands_from true (line ∷ lines) = commands_from (not (is_end line)) lines
+commands_from true (line ∷ lines) = commands_from (not (is_end_line line)) lines
 commands_from false (line ∷ lines) =
-    if is_load line then block_of lines ∷ commands_from true lines
-    else cons_option (judged line) (commands_from false lines)
+    if is_load_line line then block_of lines ∷ commands_from true lines
+    else cons_option (command_of line) (commands_from false lines)
 
 abbrev pub commands_of : List ℕ → List Command
 commands_of bytes = commands_from false (bare_lines bytes)

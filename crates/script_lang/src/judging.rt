@@ -1,27 +1,25 @@
 //! How a line is judged.
 
-ghost use Rattle.std.specs.Prelude.{◌≡◌, [], length, min, IfOk, IfSome, IsTrue};
+ghost use Rattle.std.specs.Prelude.{◌≡◌, ◌∷◌, [], length, min, Some, IfOk, IfSome, IsTrue};
 ghost use Rattle.cp_text.specs.Words.{words_of};
 ghost use Rattle.cp_text.specs.LineReading.{ends_read, line_read};
-ghost use Rattle.script_lang.specs.Judged.{judged, judged_words, word_command, line_command, alone, delete_between, set_between, set_kind, set_words, is_sheet_count, points_read, sheet_of, sheet_words};
+ghost use Rattle.script_lang.specs.Judged.{command_of, words_command, word_command, line_command, alone, delete_between, set_between, set_kind, set_words, is_sheet_count, points_read, sheet_command, sheet_words};
 ghost use Rattle.script_lang.specs.Script.{meets_condition};
 
 use crate::block::{LoadLines, LoadStop};
 use crate::command::Command;
 use crate::corners::Corners;
 use cp_text::{
-    CpLine, Ends, LineFault, is_digits, next_word, read_ends, read_kind, read_line, read_point,
+    CpLine, Ends, LONGEST_LINE, LineFault, is_digits, next_word, read_ends, read_kind,
+    read_line_words, read_point,
 };
 use crease_model::Kind;
 use std::alloc::{AllocError, Global};
 
-/// The longest line, in bytes without its end.
-const LONGEST: usize = 1000;
-
 /// The most words of a command.
 const MOST_WORDS: usize = 32;
 
-fn command_of(line: Result<CpLine, LineFault>) -> Command
+fn add_command(line: Result<CpLine, LineFault>) -> Command
     ensures { result ≡ line_command line }
 {
     match line {
@@ -110,7 +108,7 @@ fn judge_set(words: &[u8]) -> Command
 
 fn read_corners(alloc: Global, words: &[u8]) -> Result<Command, AllocError>
     requires { IsTrue (is_sheet_count (length (words_of words.now))) }
-    ensures { IfOk result (λ command. command ≡ sheet_of (points_read 1 (words_of words.now))) }
+    ensures { IfOk result (λ command. command ≡ sheet_command (points_read 1 (words_of words.now))) }
 {
     let mut points = Vec::new(alloc);
     let mut place = 1;
@@ -185,21 +183,36 @@ fn judge_word(alloc: Global, word: &[u8], words: &[u8]) -> Result<Command, Alloc
     }
 }
 
+/// The command of a line that was parted into its first word and the rest.
+pub(crate) fn judge_line(
+    alloc: Global,
+    line: &[u8],
+    word: &[u8],
+    words: &[u8],
+) -> Result<Command, AllocError>
+    requires { words_of line.now ≡ word.now ∷ words_of words.now }
+    ensures exact { IfOk result (λ command. command_of line.now ≡ Some command) }
+    ensures condition { IfOk result (λ command. IsTrue (meets_condition command)) }
+{
+    if is_digits(word) {
+        return Ok(add_command(read_line_words(line, word, words)));
+    }
+    if line.len() > LONGEST_LINE {
+        return Ok(bad(LineFault::LongLine));
+    }
+    let command = judge_word(alloc, word, words)?;
+    Ok(command)
+}
+
 /// The command of a line without its end; a line that is no command is `Bad` with its first fault. None exactly where the
 /// line has no word. A line `load` by itself is a block without lines and without its end.
 pub fn read_command(alloc: Global, line: &[u8]) -> Result<Option<Command>, AllocError>
-    ensures exact { IfOk result (λ command. command ≡ judged line.now) }
+    ensures exact { IfOk result (λ command. command ≡ command_of line.now) }
     ensures condition { IfOk result (λ command. IfSome command (λ c. IsTrue (meets_condition c))) }
 {
     let Some((word, words)) = next_word(line) else {
         return Ok(None);
     };
-    if is_digits(word) {
-        return Ok(Some(command_of(read_line(line))));
-    }
-    if line.len() > LONGEST {
-        return Ok(Some(bad(LineFault::LongLine)));
-    }
-    let command = judge_word(alloc, word, words)?;
+    let command = judge_line(alloc, line, word, words)?;
     Ok(Some(command))
 }

@@ -1,9 +1,10 @@
 //! Replies and refusals, and the first line of their texts.
 
-ghost use Rattle.std.specs.Prelude.{◌≡◌, ◌++◌, List, ℕ, length, take, codes, decimal, IfOk, IfSome, OnOk, OnErr};
-ghost use Rattle.script_lang.specs.Replies.{line_refusal, store_refusal, cause_refusal, head_text, refusal_text, plain_text, refusal_word, refusal_number, refusal_cause, number_text, cause_text};
+ghost use Rattle.std.specs.Prelude.{◌≡◌, ◌++◌, List, ℕ, codes, decimal, IfOk, IfSome, OnOk, OnErr};
+ghost use Rattle.cp_text.specs.Growth.{KeepsFront};
+ghost use Rattle.script_lang.specs.Replies.{line_refusal, store_refusal, cause_refusal, head_text, refusal_text, plain_text, refusal_word, refusal_number, refusal_cause, number_part, cause_text};
 
-use cp_text::LineFault;
+use cp_text::{LineFault, all_or_nothing};
 use crease_store::StoreRefusal;
 use itoa::Buffer;
 use std::alloc::AllocError;
@@ -134,7 +135,7 @@ fn append_counts(
     pieces: u32,
 ) -> Result<(), AllocError>
     ensures ok { OnOk result (out.new.items ≡ out.old.items ++ word.now ++ decimal version ++ between.now ++ decimal pieces ++ codes "\n") }
-    ensures err { OnErr result (take (length out.old.items) out.new.items ≡ out.old.items) }
+    ensures err { OnErr result (KeepsFront out.old.items out.new.items) }
 {
     out.extend_from_slice(word)?;
     append_number(out, version)?;
@@ -196,8 +197,8 @@ fn refusal_cause_of(refusal: Refusal) -> Option<LoadCause>
 }
 
 fn append_place(out: &mut Vec<u8>, number: Option<u32>) -> Result<(), AllocError>
-    ensures ok { OnOk result (out.new.items ≡ out.old.items ++ number_text number) }
-    ensures err { OnErr result (take (length out.old.items) out.new.items ≡ out.old.items) }
+    ensures ok { OnOk result (out.new.items ≡ out.old.items ++ number_part number) }
+    ensures err { OnErr result (KeepsFront out.old.items out.new.items) }
 {
     match number {
         None => Ok(()),
@@ -211,7 +212,7 @@ fn append_place(out: &mut Vec<u8>, number: Option<u32>) -> Result<(), AllocError
 // The word and the number of a refusal.
 fn append_plain(out: &mut Vec<u8>, refusal: Refusal) -> Result<(), AllocError>
     ensures ok { OnOk result (out.new.items ≡ out.old.items ++ plain_text refusal) }
-    ensures err { OnErr result (take (length out.old.items) out.new.items ≡ out.old.items) }
+    ensures err { OnErr result (KeepsFront out.old.items out.new.items) }
 {
     out.extend_from_slice(refusal_word_of(refusal))?;
     append_place(out, refusal_number_of(refusal))
@@ -219,7 +220,7 @@ fn append_plain(out: &mut Vec<u8>, refusal: Refusal) -> Result<(), AllocError>
 
 fn append_cause(out: &mut Vec<u8>, cause: Option<LoadCause>) -> Result<(), AllocError>
     ensures ok { OnOk result (out.new.items ≡ out.old.items ++ cause_text cause) }
-    ensures err { OnErr result (take (length out.old.items) out.new.items ≡ out.old.items) }
+    ensures err { OnErr result (KeepsFront out.old.items out.new.items) }
 {
     match cause {
         None => Ok(()),
@@ -232,7 +233,7 @@ fn append_cause(out: &mut Vec<u8>, cause: Option<LoadCause>) -> Result<(), Alloc
 
 fn append_refusal(out: &mut Vec<u8>, refusal: Refusal) -> Result<(), AllocError>
     ensures ok { OnOk result (out.new.items ≡ out.old.items ++ codes "refused " ++ refusal_text refusal ++ codes "\n") }
-    ensures err { OnErr result (take (length out.old.items) out.new.items ≡ out.old.items) }
+    ensures err { OnErr result (KeepsFront out.old.items out.new.items) }
 {
     out.extend_from_slice(b"refused ")?;
     append_plain(out, refusal)?;
@@ -242,7 +243,7 @@ fn append_refusal(out: &mut Vec<u8>, refusal: Refusal) -> Result<(), AllocError>
 
 fn append_head(out: &mut Vec<u8>, reply: &Reply) -> Result<(), AllocError>
     ensures ok { OnOk result (out.new.items ≡ out.old.items ++ head_text reply.now) }
-    ensures err { OnErr result (take (length out.old.items) out.new.items ≡ out.old.items) }
+    ensures err { OnErr result (KeepsFront out.old.items out.new.items) }
 {
     match *reply {
         Reply::Version { version, pieces } => append_counts(
@@ -265,8 +266,5 @@ pub fn write_head(out: &mut Vec<u8>, reply: &Reply) -> Result<(), AllocError>
 {
     let before = out.len();
     let written = append_head(out, reply);
-    if written.is_err() {
-        out.truncate(before);
-    }
-    written
+    all_or_nothing(out, before, written)
 }

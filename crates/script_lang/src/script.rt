@@ -1,14 +1,14 @@
 //! The commands of a whole script.
 
-ghost use Rattle.std.specs.Prelude.{◌≡◌, ◌<◌, ◌≤◌, ◌∷◌, ◌++◌, length, true, false, IfOk, IfSome, OnOk, IsTrue};
-ghost use Rattle.std.specs.List.{list_all, cons_option};
-ghost use Rattle.cp_text.specs.Words.{words_of, bare_lines};
-ghost use Rattle.script_lang.specs.Script.{meets_condition, is_only, is_load, is_end, block_read, numbered, block_of, commands_from, commands_of};
+ghost use Rattle.std.specs.Prelude.{◌≡◌, ◌<◌, ◌≤◌, ◌∷◌, [], ◌++◌, ◌&&◌, nat_le, length, true, false, IfOk, OnOk, IsTrue};
+ghost use Rattle.std.specs.List.{list_all};
+ghost use Rattle.cp_text.specs.Words.{longest_line, words_of, bare_lines};
+ghost use Rattle.script_lang.specs.Script.{meets_condition, is_only, is_load_line, is_end_line, numbered, block_of, commands_from, commands_of};
 
 use crate::block::{LoadLines, LoadStop};
 use crate::command::Command;
-use crate::judging::read_command;
-use cp_text::{CpLine, LineFault, next_line, next_word, read_line};
+use crate::judging::judge_line;
+use cp_text::{CpLine, LONGEST_LINE, next_line, next_word, read_line_words};
 use crease_store::LoadLine;
 use std::alloc::{AllocError, Global};
 use std::marker::Model;
@@ -56,49 +56,47 @@ impl Commands {
     }
 }
 
-/// The longest line of one word that begins or ends a block, in bytes without its end.
-const LONGEST: usize = 1000;
-
-fn is_only(word: &[u8], words: &[u8]) -> bool
-    ensures { result ≡ is_only word.now (words_of words.now) }
+// Whether a line of this first word and what stands behind it is short and this word alone.
+fn is_alone(expected: &[u8], line: &[u8], word: &[u8], rest: &[u8]) -> bool
+    requires { words_of line.now ≡ word.now ∷ words_of rest.now }
+    ensures { result ≡ (nat_le (length line.now) longest_line && is_only expected.now (words_of line.now)) }
 {
-    match next_word(words) {
-        Some((first, rest)) => first == word && next_word(rest).is_none(),
-        None => false,
-    }
+    line.len() <= LONGEST_LINE && word == expected && next_word(rest).is_none()
 }
 
 /// Whether a line without its end begins a block.
 pub fn is_load(line: &[u8]) -> bool
-    ensures { result ≡ is_load line.now }
+    ensures { result ≡ is_load_line line.now }
 {
-    line.len() <= LONGEST && is_only(b"load", line)
+    match next_word(line) {
+        Some((word, rest)) => is_alone(b"load", line, word, rest),
+        None => false,
+    }
 }
 
 /// Whether a line without its end ends a block.
 fn is_end(line: &[u8]) -> bool
-    ensures { result ≡ is_end line.now }
-{
-    line.len() <= LONGEST && is_only(b"end", line)
-}
-
-// What a line of a block is: a crease line or a fault, and None for a blank one.
-fn read_block_line(line: &[u8]) -> Option<Result<CpLine, LineFault>>
-    ensures { result ≡ block_read line.now }
+    ensures { result ≡ is_end_line line.now }
 {
     match next_word(line) {
-        Some(_) => Some(read_line(line)),
-        None => None,
+        Some((word, rest)) => is_alone(b"end", line, word, rest),
+        None => false,
     }
 }
 
-fn load(lines: Vec<LoadLine>, stop: LoadStop) -> Command
-    ensures { result ≡ Command.Load lines.items stop }
+// Appends the command of a block.
+fn push_load(
+    list: &mut Vec<Command>,
+    lines: Vec<LoadLine>,
+    stop: LoadStop,
+) -> Result<(), AllocError>
+    requires condition { IsTrue (list_all meets_condition list.old.items) }
+    ensures ok { OnOk result (list.new.items ≡ list.old.items ++ Command.Load lines.items stop ∷ []) }
+    ensures condition { OnOk result (IsTrue (list_all meets_condition list.new.items)) }
 {
-    Command::Load {
-        lines: LoadLines::of(lines),
-        stop,
-    }
+    let lines = LoadLines::of(lines);
+    list.push(Command::Load { lines, stop })?;
+    Ok(())
 }
 
 fn numbered(number: u32, line: CpLine) -> LoadLine
@@ -110,29 +108,6 @@ fn numbered(number: u32, line: CpLine) -> LoadLine
         from: line.from,
         to: line.to,
     }
-}
-
-// The command of the block that begins with this text.
-fn read_block(alloc: Global, text: &[u8]) -> Result<Command, AllocError>
-    requires { length (bare_lines text.now) < 4294967295 }
-    ensures { IfOk result (λ command. command ≡ block_of (bare_lines text.now)) }
-{
-    let mut lines = Vec::new(alloc);
-    let mut number: u32 = 1;
-    let mut rest = text;
-    while let Some((line, after)) = next_line(rest) {
-        if is_end(line) {
-            return Ok(load(lines, LoadStop::Ended));
-        }
-        match read_block_line(line) {
-            Some(Ok(line)) => lines.push(numbered(number, line))?,
-            Some(Err(fault)) => return Ok(load(lines, LoadStop::Bad { number, fault })),
-            None => {}
-        }
-        number += 1;
-        rest = after;
-    }
-    Ok(load(lines, LoadStop::Unended))
 }
 
 // What follows the block that begins with this text.
@@ -150,48 +125,67 @@ fn after_block(text: &[u8]) -> &[u8]
     rest
 }
 
-// What follows a line and, where it begins one, the block.
-fn after_line<'a>(line: &[u8], rest: &'a [u8]) -> &'a [u8]
-    ensures commands { commands_from false (bare_lines result.now) ≡ commands_from (is_load line.now) (bare_lines rest.now) }
-    ensures lines { length (bare_lines result.now) ≤ length (bare_lines rest.now) }
+// Appends the command of the block that begins with this text, and gives what follows the block.
+#[tactic(auto, using(crate::proofs::Blocks::block_pushed))]
+fn push_block<'a>(
+    alloc: Global,
+    list: &mut Vec<Command>,
+    text: &'a [u8],
+) -> Result<&'a [u8], AllocError>
+    requires lines { length (bare_lines text.now) < 4294967295 }
+    requires condition { IsTrue (list_all meets_condition list.old.items) }
+    ensures ok { IfOk result (λ rest. list.new.items ++ commands_from false (bare_lines rest.now)
+        ≡ list.old.items ++ block_of (bare_lines text.now) ∷ commands_from true (bare_lines text.now)) }
+    ensures condition { OnOk result (IsTrue (list_all meets_condition list.new.items)) }
+    ensures lines { IfOk result (λ rest. length (bare_lines rest.now) ≤ length (bare_lines text.now)) }
 {
-    if is_load(line) {
-        after_block(rest)
-    } else {
-        rest
+    let mut lines = Vec::new(alloc);
+    let mut number: u32 = 1;
+    let mut rest = text;
+    while let Some((line, after)) = next_line(rest) {
+        if let Some((word, words)) = next_word(line) {
+            if is_alone(b"end", line, word, words) {
+                push_load(list, lines, LoadStop::Ended)?;
+                return Ok(after);
+            }
+            match read_line_words(line, word, words) {
+                Ok(line) => lines.push(numbered(number, line))?,
+                Err(fault) => {
+                    push_load(list, lines, LoadStop::Bad { number, fault })?;
+                    return Ok(after_block(after));
+                }
+            }
+        }
+        number += 1;
+        rest = after;
     }
+    push_load(list, lines, LoadStop::Unended)?;
+    Ok(rest)
 }
 
-// The command of a line, or of the block that it begins.
-fn read_first(alloc: Global, line: &[u8], rest: &[u8]) -> Result<Option<Command>, AllocError>
-    requires { length (bare_lines rest.now) < 4294967295 }
-    ensures exact { IfOk result (λ command. commands_from false (line.now ∷ bare_lines rest.now)
-        ≡ cons_option command (commands_from (is_load line.now) (bare_lines rest.now))) }
-    ensures condition { IfOk result (λ command. IfSome command (λ c. IsTrue (meets_condition c))) }
-{
-    if !is_load(line) {
-        return read_command(alloc, line);
-    }
-    let command = read_block(alloc, rest)?;
-    Ok(Some(command))
-}
-
-fn push_first(
+// Appends the command of a line, or of the block that it begins, and gives what follows that.
+fn push_first<'a>(
     alloc: Global,
     list: &mut Vec<Command>,
     line: &[u8],
-    rest: &[u8],
-) -> Result<(), AllocError>
+    rest: &'a [u8],
+) -> Result<&'a [u8], AllocError>
     requires lines { length (bare_lines rest.now) < 4294967295 }
     requires condition { IsTrue (list_all meets_condition list.old.items) }
-    ensures ok { OnOk result (list.new.items ++ commands_from (is_load line.now) (bare_lines rest.now)
+    ensures ok { IfOk result (λ after. list.new.items ++ commands_from false (bare_lines after.now)
         ≡ list.old.items ++ commands_from false (line.now ∷ bare_lines rest.now)) }
     ensures condition { OnOk result (IsTrue (list_all meets_condition list.new.items)) }
+    ensures lines { IfOk result (λ after. length (bare_lines after.now) ≤ length (bare_lines rest.now)) }
 {
-    if let Some(command) = read_first(alloc, line, rest)? {
-        list.push(command)?;
+    let Some((word, words)) = next_word(line) else {
+        return Ok(rest);
+    };
+    if is_alone(b"load", line, word, words) {
+        return push_block(alloc, list, rest);
     }
-    Ok(())
+    let command = judge_line(alloc, line, word, words)?;
+    list.push(command)?;
+    Ok(rest)
 }
 
 /// The commands of all lines and blocks. A line ends with a line feed, and the bytes after the last one are a line too.
@@ -203,8 +197,7 @@ pub fn read_script(alloc: Global, bytes: &[u8]) -> Result<Commands, AllocError>
     let mut list = Vec::new(alloc);
     let mut text = bytes;
     while let Some((line, rest)) = next_line(text) {
-        push_first(alloc, &mut list, line, rest)?;
-        text = after_line(line, rest);
+        text = push_first(alloc, &mut list, line, rest)?;
     }
     Ok(Commands { list })
 }

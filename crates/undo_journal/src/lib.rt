@@ -2,15 +2,15 @@
 //! was made from, and redo goes back.
 #![tactic(auto)]
 
-ghost use Rattle.std.specs.Prelude.{◌≡◌, [], ◌-◌, ◌<◌, ◌↔◌, length, IfOk, IfErr, OnOk, OnErr, IsErr, IsErrOf, MatchResult, MatchOption, IsNone, Some, None};
-ghost use Rattle.undo_journal.specs.Versions.{opened, committed, undone, redone, greatest_of, pattern_at};
+ghost use Rattle.std.specs.Prelude.{◌≡◌, ℕ, [], ◌-◌, ◌<◌, ◌↔◌, length, IfOk, IfErr, OnOk, OnErr, IsErr, IsErrOf, MatchResult, MatchOption, IsNone, Some, None};
+ghost use Rattle.undo_journal.specs.Versions.{greatest_version, opened, committed, undone, redone, greatest_of, pattern_at, current_pattern, KeepsPatterns};
 
 use crease_model::Pattern;
 use std::alloc::{AllocError, AllocFailed, Global};
 use std::marker::Model;
 use thiserror::Error;
 
-/// The greatest version number.
+/// The last version number.
 pub const GREATEST: usize = 1000;
 
 /// A pattern, and the number of the version that it was made from (0 for version 0).
@@ -29,6 +29,17 @@ pub enum JournalFault {
     Memory,
 }
 
+impl From<AllocError> for JournalFault {
+    ghost use Rattle.std.specs.Prelude.{◌≡◌};
+    ghost use Rattle.undo_journal.specs.declared.JournalFault.TheVariants.{Memory};
+
+    ghost from_gives = { λ _ e. e ≡ Memory };
+
+    fn from(_fault: AllocError) -> JournalFault {
+        JournalFault::Memory
+    }
+}
+
 /// Why there is no pattern to answer.
 #[derive(Clone, Copy, Debug, PartialEq, Eq, Error)]
 pub enum VersionFault {
@@ -36,6 +47,17 @@ pub enum VersionFault {
     NoSuchVersion,
     #[error("out of memory")]
     Memory,
+}
+
+impl From<AllocError> for VersionFault {
+    ghost use Rattle.std.specs.Prelude.{◌≡◌};
+    ghost use Rattle.undo_journal.specs.declared.VersionFault.TheVariants.{Memory};
+
+    ghost from_gives = { λ _ e. e ≡ Memory };
+
+    fn from(_fault: AllocError) -> VersionFault {
+        VersionFault::Memory
+    }
 }
 
 /// Version 0 is current.
@@ -127,47 +149,52 @@ impl Journal {
         ensures missing { IsErrOf result VersionFault.NoSuchVersion ↔ (greatest_of self.now < version) }
     {
         match self.versions.get(version as usize) {
-            Some(v) => match v.pattern.copy() {
-                Ok(copied) => Ok(copied),
-                Err(_) => Err(VersionFault::Memory),
-            },
+            Some(v) => {
+                let copied = v.pattern.copy()?;
+                Ok(copied)
+            }
             None => Err(VersionFault::NoSuchVersion),
         }
     }
 
     /// Makes the pattern a new version, whose parent is the current one, and empties the redo list. The number is the
-    /// new version's. A refusal leaves the journal as it was.
+    /// new version's. Each number from before keeps its pattern, and an undo right after makes the pattern current that
+    /// was so before. A refusal leaves the journal as it was.
     pub fn commit(&mut self, pattern: Pattern) -> Result<u32, JournalFault>
         ensures ok { OnOk result (self.new ≡ committed self.old pattern) }
         ensures value { IfOk result (λ version. version ≡ length self.old.versions) }
-        ensures full { IsErrOf result JournalFault.Full ↔ (greatest_of self.old ≡ GREATEST) }
+        ensures full { IsErrOf result JournalFault.Full ↔ (greatest_of self.old ≡ greatest_version) }
         ensures err { OnErr result (self.new ≡ self.old) }
+        ensures pattern { IfOk result (λ version. pattern_at self.new version ≡ Some pattern) }
+        ensures patterns { KeepsPatterns self.old self.new }
+        ensures undone { OnOk result (current_pattern (undone self.new) ≡ current_pattern self.old) }
     {
         let count = self.versions.len();
         if count > GREATEST {
             return Err(JournalFault::Full);
         }
-        if self.redo.reserve(count + 1 - self.redo.len()).is_err() {
-            return Err(JournalFault::Memory);
-        }
-        let version = Version {
-            pattern,
-            parent: self.current,
-        };
-        if self.versions.push(version).is_err() {
-            return Err(JournalFault::Memory);
-        }
+        self.redo.reserve(count + 1 - self.redo.len())?;
+        self.versions.reserve(1)?;
+        self.versions
+            .push(Version {
+                pattern,
+                parent: self.current,
+            })
+            .unwrap();
         self.current = count as u32;
         self.redo.clear();
         Ok(self.current)
     }
 
-    /// Makes the parent of the current version current, and answers its number.
+    /// Makes the parent of the current version current, and answers its number. No version changes, and a redo right
+    /// after gives back the journal from before.
     pub fn undo(&mut self) -> Result<u32, NothingToUndo>
         ensures ok { OnOk result (self.new ≡ undone self.old) }
         ensures value { IfOk result (λ version. version ≡ self.new.current) }
         ensures refused { IsErr result ↔ (self.old.current ≡ 0) }
         ensures err { OnErr result (self.new ≡ self.old) }
+        ensures patterns { (version : ℕ) → pattern_at self.new version ≡ pattern_at self.old version }
+        ensures redone { OnOk result (redone self.new ≡ Some self.old) }
     {
         if self.current == 0 {
             return Err(NothingToUndo);
@@ -178,12 +205,15 @@ impl Journal {
         Ok(parent)
     }
 
-    /// Makes the version current that the last undo left, and answers its number.
+    /// Makes the version current that the last undo left, and answers its number. No version changes, and an undo right
+    /// after gives back the journal from before.
     pub fn redo(&mut self) -> Result<u32, NothingToRedo>
         ensures ok { OnOk result (redone self.old ≡ Some self.new) }
         ensures value { IfOk result (λ version. version ≡ self.new.current) }
         ensures refused { IsErr result ↔ (self.old.redo ≡ []) }
         ensures err { OnErr result (self.new ≡ self.old) }
+        ensures patterns { (version : ℕ) → pattern_at self.new version ≡ pattern_at self.old version }
+        ensures undone { OnOk result (undone self.new ≡ self.old) }
     {
         match self.redo.pop() {
             Some(version) => {

@@ -1,7 +1,8 @@
 use Rattle.std.proofs.Common.{rules, ◌≡◌, [], ◌∷◌, ◌++◌, ap, ◌∙◌, arith, sym, subst}
 use Rattle.undo_journal.specs.Versions.{undone}
 use Rattle.undo_journal.specs.Invariant.{IsJournal}
-use Rattle.undo_journal.proofs.Undoing.{undone-fields, IsJournal-undone}
+use Rattle.undo_journal.specs.JournalLaws.{IsJournal-undone}
+use Rattle.undo_journal.proofs.Undoing.{undone-fields}
 use Rattle.undo_journal.proofs.Journal.undo.Goals as goal
 
 pub invariant_of-self : goal.invariant_of-self
