@@ -1,2 +1,3 @@
 pub mod Serving
 pub mod Clauses
+pub mod Words

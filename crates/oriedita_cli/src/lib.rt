@@ -1,8 +1,10 @@
 //! The top call of the editor: a script is read, its commands are answered one after another, and the replies are
-//! written.
+//! written; and the program round it.
 #![tactic(auto)]
 
+mod programs;
 mod running;
 mod serving;
 
+pub use programs::{program, run_arguments};
 pub use running::{Ended, run};

@@ -11,7 +11,7 @@ ghost use Rattle.oriedita_cli.specs.Clauses.{IsAnswered, IsInput, IsOutput, ende
 
 use crate::serving::{Stop, serve_all};
 use job_register::{Record, Session};
-use oriedita_io::{Failed, Input, InputEnd, Sink, Source, read_all};
+use oriedita_io::{Failed, Input, InputEnd, LONGEST_INPUT, Sink, Source, read_all};
 use script_lang::{Commands, read_script};
 use std::alloc::{AllocError, Global};
 
@@ -37,10 +37,8 @@ pub const TOO_LONG: u8 = 5;
 /// Memory was refused.
 pub const NO_MEMORY: u8 = 6;
 
-/// The most bytes that a script has.
-const LONGEST: usize = 4_194_304;
-
-fn ended_without(alloc: Global, status: u8) -> Ended
+// The end of a run that answered no command.
+pub(crate) fn ended_without(alloc: Global, status: u8) -> Ended
     ensures status { result.status ≡ status }
     ensures events { events_of result.events ≡ [] }
 {
@@ -184,7 +182,7 @@ pub fn run<S: Source, K: Sink>(
     if !words.is_empty() {
         return ended_without(alloc, BAD_WORDS);
     }
-    match read_all(alloc, script, LONGEST) {
+    match read_all(alloc, script, LONGEST_INPUT) {
         Ok(input) => run_input(alloc, &input, out),
         Err(_) => ended_without(alloc, NO_MEMORY),
     }

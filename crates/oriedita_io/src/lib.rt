@@ -4,7 +4,7 @@
 pub use faults::Failed;
 pub use mem_sink::MemSink;
 pub use mem_source::MemSource;
-pub use reading::{Input, InputEnd, Source, read_all};
+pub use reading::{Input, InputEnd, LONGEST_INPUT, Source, read_all};
 pub use standard::{StdinSource, StdoutSink};
 pub use writing::{Sink, write_all};
 

@@ -6,6 +6,9 @@ ghost use Rattle.oriedita_io.specs.Faults.{Rose};
 use super::Failed;
 use std::alloc::{AllocError, Global};
 
+/// The most bytes that [`read_all`] may be asked for: 4 MiB, the longest script.
+pub const LONGEST_INPUT: usize = 4_194_304;
+
 /// The bytes that one read of [`read_all`] asks for at most.
 const CHUNK: usize = 4096;
 
@@ -47,7 +50,7 @@ pub struct Input {
 /// Reads `source` to its end, or until more than `most` bytes came or a read failed. Each turn reads a byte
 /// or more, and never more than `most` + 1 in all. It fails only where there is no memory for the bytes.
 pub fn read_all<S: Source>(alloc: Global, source: &mut S, most: usize) -> Result<Input, AllocError>
-    requires { most ≤ 4_194_304 }
+    requires { most ≤ LONGEST_INPUT }
 
     // The source lost exactly the bytes that are answered; without memory those that came are lost.
     ensures bytes { IfOk result (λ input.

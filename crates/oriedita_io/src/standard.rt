@@ -1,12 +1,66 @@
 //! Standard input and output as a source and a sink. They tell what their reader and writer tell, which is
-//! nothing for those of the system.
-ghost use Rattle.std.specs.Prelude.{◌≡◌};
+//! nothing for those of the system. A call that a signal interrupts is made again.
+ghost use Rattle.std.specs.Prelude.{◌≡◌, IsErr, IsTrue};
+ghost use Rattle.std.specs.Io.{ReadsAtMost, WritesAtMost};
+ghost use Rattle.std.specs.Io.KnownBytes.{Keeps, ReadConsumes, WriteAppends};
 
 use super::{Failed, Sink, Source};
+use std::io;
 use std::io::{Read, Write};
 use std::marker::Model;
 
-/// A reader, as that of standard input, `rt.reader()`, as a source. An error of a read is a fault.
+/// How often a read, a write or a flush is made at most, where signals interrupt it each time.
+const TRIES: u32 = 100_000;
+
+fn is_interrupted<T>(ended: &io::Result<T>) -> bool
+    ensures { IsTrue result → IsErr ended.now }
+{
+    match ended {
+        Ok(_) => false,
+        Err(error) => error.kind() == io::ErrorKind::Interrupted,
+    }
+}
+
+fn read_retrying<R: Read>(reader: &mut R, into: &mut [u8]) -> io::Result<usize>
+    ensures bound { ReadsAtMost result into.new }
+    ensures bytes { ReadConsumes (R.remaining reader.old) (R.remaining reader.new) result into.new }
+{
+    for _ in 1..TRIES {
+        let ended = reader.read(into);
+        if !is_interrupted(&ended) {
+            return ended;
+        }
+    }
+    reader.read(into)
+}
+
+fn write_retrying<W: Write>(writer: &mut W, bytes: &[u8]) -> io::Result<usize>
+    ensures bound { WritesAtMost result bytes.now }
+    ensures bytes { WriteAppends (W.contents writer.old) (W.contents writer.new) result bytes.now }
+{
+    for _ in 1..TRIES {
+        let ended = writer.write(bytes);
+        if !is_interrupted(&ended) {
+            return ended;
+        }
+    }
+    writer.write(bytes)
+}
+
+fn flush_retrying<W: Write>(writer: &mut W) -> io::Result<()>
+    ensures bytes { Keeps (W.contents writer.old) (W.contents writer.new) }
+{
+    for _ in 1..TRIES {
+        let ended = writer.flush();
+        if !is_interrupted(&ended) {
+            return ended;
+        }
+    }
+    writer.flush()
+}
+
+/// A reader, as that of standard input, `rt.reader()`, as a source. An error of a read is a fault, an
+/// interruption only where a hundred thousand tries of one read were interrupted.
 #[derive(Drop)]
 pub struct StdinSource<R> {
     reader: R,
@@ -37,7 +91,7 @@ impl<R: Read> Source for StdinSource<R> {
     ghost left = { λ s. R.remaining s.io };
 
     fn read(&mut self, into: &mut [u8]) -> Result<usize, Failed> {
-        match self.reader.read(into) {
+        match read_retrying(&mut self.reader, into) {
             Ok(count) => Ok(count),
             Err(_) => {
                 self.faults = self.faults.saturating_add(1);
@@ -48,7 +102,8 @@ impl<R: Read> Source for StdinSource<R> {
 }
 
 /// A writer, as that of standard output, `io::writer(&rt)`, as a sink. An error of a write or a flush is a
-/// fault, and so is a write of no byte where there is one.
+/// fault, an interruption only where a hundred thousand tries of one call were interrupted. So is a write of
+/// no byte where there is one.
 #[derive(Drop)]
 pub struct StdoutSink<W> {
     writer: W,
@@ -83,7 +138,7 @@ impl<W: Write> Sink for StdoutSink<W> {
     ghost finished = { λ _. None };
 
     fn write(&mut self, bytes: &[u8]) -> Result<usize, Failed> {
-        match self.writer.write(bytes) {
+        match write_retrying(&mut self.writer, bytes) {
             Ok(count) if count > 0 || bytes.is_empty() => Ok(count),
             _ => {
                 self.faults = self.faults.saturating_add(1);
@@ -92,9 +147,9 @@ impl<W: Write> Sink for StdoutSink<W> {
         }
     }
 
-    // No clause sees a flush: the writer's bytes stay as they were.
+    // No clause sees a flush, since the writer's bytes stay as they were: a test counts it.
     fn finish(&mut self) -> Result<(), Failed> {
-        match self.writer.flush() {
+        match flush_retrying(&mut self.writer) {
             Ok(()) => Ok(()),
             Err(_) => {
                 self.faults = self.faults.saturating_add(1);

@@ -2,6 +2,8 @@ ghost use Rattle.std.specs.Prelude.{◌≤◌};
 
 use super::*;
 use std::alloc::{AllocError, Global};
+use std::io;
+use std::io::{Read, Write};
 use std::test::Fail;
 
 // The bytes of a source, the most that a read of it gives, the reads that fail, and how many bytes are asked
@@ -112,5 +114,93 @@ fn readers_and_writers_pass_bytes_on(rt: HostRuntime) -> Result<(), Fail> {
         format!(in rt.alloc(); "{Failed}")?.as_str(),
         "the object failed"
     );
+    Ok(())
+}
+
+// Gives `left` bytes and takes any number, one a call, and counts the flushes. A call is done only after so many
+// others were interrupted.
+#[derive(Drop)]
+struct Interrupted {
+    interruptions: u32,
+    interrupted: u32,
+    left: usize,
+    taken: usize,
+    flushes: u32,
+}
+
+impl Interrupted {
+    fn interrupts(&mut self) -> bool {
+        let interrupts = self.interrupted < self.interruptions;
+        self.interrupted = if interrupts {
+            self.interrupted.saturating_add(1)
+        } else {
+            0
+        };
+        interrupts
+    }
+}
+
+impl Read for Interrupted {
+    fn read(&mut self, buf: &mut [u8]) -> io::Result<usize> {
+        if self.interrupts() {
+            return Err(io::Error::from(io::ErrorKind::Interrupted));
+        }
+        let count = buf.len().min(self.left).min(1);
+        self.left = self.left.saturating_sub(count);
+        Ok(count)
+    }
+}
+
+impl Write for Interrupted {
+    fn write(&mut self, buf: &[u8]) -> io::Result<usize> {
+        if self.interrupts() {
+            return Err(io::Error::from(io::ErrorKind::Interrupted));
+        }
+        let count = buf.len().min(1);
+        self.taken = self.taken.saturating_add(count);
+        Ok(count)
+    }
+
+    fn flush(&mut self) -> io::Result<()> {
+        if self.interrupts() {
+            return Err(io::Error::from(io::ErrorKind::Interrupted));
+        }
+        self.flushes = self.flushes.saturating_add(1);
+        Ok(())
+    }
+}
+
+// The interruptions before each call; then why the reading stops, how many bytes are read and written, and how often
+// the writer is flushed.
+const INTERRUPTIONS: [(u32, InputEnd, usize, u32); 4] = [
+    (0, InputEnd::Ended, 3, 1),
+    (1, InputEnd::Ended, 3, 1),
+    (99_999, InputEnd::Ended, 3, 1),
+    (u32::MAX, InputEnd::Failed, 0, 0),
+];
+
+#[test]
+fn interrupted_calls_are_made_again(rt: HostRuntime) -> Result<(), Fail> {
+    for (interruptions, end, count, flushes) in INTERRUPTIONS {
+        let mut stream = Interrupted {
+            interruptions,
+            interrupted: 0,
+            left: 3,
+            taken: 0,
+            flushes: 0,
+        };
+        let input = read_all(rt.alloc(), &mut StdinSource::new(&mut stream), 9)?;
+        assert_eq!(rt; input.end, end, "{interruptions}");
+        assert_eq!(rt; input.bytes.len(), count, "{interruptions}");
+        let mut sink = StdoutSink::new(&mut stream);
+        assert_eq!(rt;
+            write_all(&mut sink, b"abc").is_ok(),
+            count == 3,
+            "{interruptions}"
+        );
+        assert_eq!(rt; sink.finish().is_ok(), flushes == 1, "{interruptions}");
+        assert_eq!(rt; stream.taken, count, "{interruptions}");
+        assert_eq!(rt; stream.flushes, flushes, "{interruptions}");
+    }
     Ok(())
 }

@@ -1,0 +1,15 @@
+use Rattle.std.proofs.Common.{arith, inr, ◌≡◌, []}
+use Rattle.std.proofs.KnownBytes.{Consumes-nil}
+use Rattle.oriedita_cli.proofs.Unanswered.{none_read}
+use Rattle.oriedita_cli.proofs.programs.run_arguments.Goals as goal
+
+-- where memory was wanted for the words, nothing is read
+pub returns-in-Err-clause-input : goal.returns-in-Err-clause-input
+returns-in-Err-clause-input g c =
+    let status : c.ended_without.result.status ≡ 6 = c.ended_without.ensures.status in (
+      [],
+      Consumes-nil (g.S.Source.left c.args.script.now),
+      none_read c.ended_without.result.status c.ended_without.result.events.list.items [] (omega (arith, status)) c.ended_without.ensures.events
+          (λ five. absurd (omega (arith, five, status)))
+          (λ _. inr status),
+    )
