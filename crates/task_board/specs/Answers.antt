@@ -1,5 +1,5 @@
 -- What a call answers, and what it adds to the history.
-use Rattle.std.specs.Prelude.{◌≡◌, ℕ, Bool, true, false, List, length, Option, None, Some, Result, Ok, Err}
+use Rattle.std.specs.Prelude.{◌≡◌, ℕ, Bool, true, false, ◌||◌, List, length, Option, None, Some, Result, Ok, Err}
 use Rattle.task_board.specs.declared.event.Event.{Event}
 use Rattle.task_board.specs.declared.event.Step.{Step}
 use Rattle.task_board.specs.declared.event.Step.TheVariants.{Put, Take, Obtain}
@@ -25,6 +25,12 @@ handed_back (Closed x) = x
 handed_back (Spent x) = x
 handed_back (Memory x) = x
 
+-- the same fault with something else
+abbrev pub fault_with : {X Y : Type 0} → PutFault X → Y → PutFault Y
+fault_with (Closed x) y = Closed y
+fault_with (Spent x) y = Spent y
+fault_with (Memory x) y = Memory y
+
 -- a ticket that was waiting; or the board is closed, which is told a seat once; or it waits
 abbrev pub IsTake : {X : Type 0} → (X → ℕ) → List Event → ℕ → Result (Option X) Waits → List Event → Type 0
 IsTake number old seat (Ok (Some x)) new = Adds old (event seat (Take (Some (number x)))) new
@@ -42,6 +48,10 @@ is_idle_at es seat n = is_ticket (is_idle_for seat) (ticket_at (replay_of es) n)
 
 abbrev pub is_busy_at : List Event → ℕ → ℕ → Bool
 is_busy_at es seat n = is_ticket (is_busy_for seat) (ticket_at (replay_of es) n)
+
+-- the seat put it, and no other works on it
+abbrev pub is_free_at : List Event → ℕ → ℕ → Bool
+is_free_at es seat n = is_answered_at es seat n || is_idle_at es seat n
 
 -- the seat's ticket is gone from now on, whether its outcome came; or there is none to take out; or another seat works
 -- on it

@@ -5,3 +5,4 @@ pub mod Contents
 pub mod Answers
 pub mod Room
 pub mod Invariant
+pub mod State

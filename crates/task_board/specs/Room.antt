@@ -1,9 +1,8 @@
 -- The room that a board keeps for the events that are still to come without a call for memory.
-use Rattle.std.specs.Prelude.{ℕ, ◌+◌, Bool, true, false, List}
+use Rattle.std.specs.Prelude.{ℕ, ◌+◌, Bool, true, false}
 use Rattle.std.specs.List.{sum_by}
 use Rattle.task_board.specs.declared.event.Stand.{Stand}
 use Rattle.task_board.specs.declared.event.Stand.TheVariants.{Waiting, Taken, Posted, Left, Gone}
-use Rattle.task_board.specs.declared.event.Ticket.{Ticket}
 use Rattle.task_board.specs.History.{Replay}
 
 -- for a ticket: that it is taken, that it is posted or given back, that its owner has it

@@ -16,10 +16,14 @@ pub enum PutFault<T> {
 }
 
 impl<T> PutFault<T> {
+    ghost use Rattle.std.specs.Prelude.{◌≡◌};
+    ghost use Rattle.task_board.specs.Answers.{fault_with};
+
     /// The same fault with something else that was to be put.
     pub fn with<U>(self, other: U) -> PutFault<U>
     where
         T: Drop,
+        ensures { result ≡ fault_with self other }
     {
         match self {
             PutFault::Closed(_) => PutFault::Closed(other),

@@ -6,6 +6,7 @@ mod event;
 mod fault;
 mod history;
 mod seat;
+mod state;
 mod work;
 
 pub use content::{Answer, Content};
@@ -13,4 +14,5 @@ pub use event::{Event, Stand, Step, Ticket};
 pub use fault::{PutFault, Waits};
 pub use history::{History, MOST_SEATS, MOST_TICKETS};
 pub use seat::Seat;
+pub use state::BoardState;
 pub use work::Work;

@@ -1,9 +1,6 @@
-use Rattle.std.proofs.Common.{◌≡◌, ◌<◌, ◌≤◌, ◌+◌, ◌-◌, ◌++◌, ◌∷◌, [], Some, None, true, false, length, refl, sym, ap, subst, arith, rules, length-append, length-set}
+use Rattle.std.proofs.Common.{◌≡◌, ◌++◌, ◌∷◌, [], length, refl, ap, arith, length-append}
 use Rattle.task_board.specs.declared.event.Event.{Event}
-use Rattle.task_board.specs.declared.event.Ticket.{Ticket}
-use Rattle.task_board.specs.declared.event.Stand.TheVariants.{Waiting}
-use Rattle.task_board.specs.declared.event.Step.TheVariants.{Put, Take, Post, GiveBack, Fetch, Obtain, Close}
-use Rattle.task_board.specs.History.{replay_of, is_next_step, after_step}
+use Rattle.task_board.specs.History.{replay_of}
 use Rattle.task_board.specs.Invariant.{kept_of}
 use Rattle.task_board.proofs.Replays.{replayed_next, legal_next}
 use Rattle.task_board.proofs.history.History.note.Goals as goal
