@@ -25,6 +25,13 @@ handed_back (Closed x) = x
 handed_back (Spent x) = x
 handed_back (Memory x) = x
 
+-- how many events a put made
+abbrev pub put_events : {X : Type 0} → Result ℕ (PutFault X) → ℕ
+put_events (Ok n) = 1
+put_events (Err (Closed x)) = 1
+put_events (Err (Spent x)) = 0
+put_events (Err (Memory x)) = 0
+
 -- the same fault with something else
 abbrev pub fault_with : {X Y : Type 0} → PutFault X → Y → PutFault Y
 fault_with (Closed x) y = Closed y

@@ -1,5 +1,6 @@
 //! Who calls a board.
-ghost use Rattle.std.specs.Prelude.{◌≡◌, ◌≤◌, ◌+◌, ◌-◌, ◌<◌, ◌^◌, true, length};
+ghost use Rattle.std.specs.Prelude.{◌≡◌, ◌≤◌, ◌+◌, ◌-◌, ◌<◌, ◌^◌, true, length, vec_len};
+ghost use Rattle.std.specs.List.{sum_by};
 ghost use Rattle.task_board.specs.declared.event.Event.{Event};
 
 use crate::history::History;
@@ -84,12 +85,28 @@ impl<L: Ledger> Seat<L> {
         self.made += added;
     }
 
-    /// Hands its part of the book over.
-    pub(crate) fn close(self, all: &mut Share<L>)
-        ensures parts { all.new.parts ≡ all.old.parts + 1 }
-        ensures amount { all.new.amount ≡ all.old.amount + self.made }
+    /// Its part of the book.
+    fn into_share(self) -> Share<L>
+        ensures parts { result.parts ≡ 1 }
+        ensures amount { result.amount ≡ self.made }
     {
         let Seat { share, .. } = self;
-        all.merge(share);
+        share
     }
+}
+
+/// The seats' parts of the book, put together.
+pub(crate) fn gathered<L: Ledger>(mut seats: Vec<Seat<L>>) -> Share<L>
+    requires { 0 < vec_len seats }
+    ensures parts { result.parts ≡ vec_len seats }
+    ensures amount { result.amount ≡ sum_by (λ s. s.made) seats.items }
+{
+    let Some(last) = seats.pop() else {
+        unreachable!();
+    };
+    let mut all = last.into_share();
+    while let Some(seat) = seats.pop() {
+        all.merge(seat.into_share());
+    }
+    all
 }

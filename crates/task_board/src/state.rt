@@ -15,7 +15,7 @@ use crate::work::Work;
 use std::alloc::{AllocError, Global};
 use std::mem;
 use std::sync::Arc;
-use std::sync::ledger::{Book, Ledger};
+use std::sync::ledger::{Book, Ledger, Share};
 
 /// A legal history, with what stands beside each ticket, each outcome right for its task, and the book of calls.
 #[derive(Drop)]
@@ -33,7 +33,7 @@ impl<W: Work, L: Ledger> BoardState<W, L> {
     ghost use Rattle.task_board.specs.Seats.{seat_after};
 
     /// A board with no event and no ticket.
-    pub fn open(alloc: Global, calls: Book<L>) -> Result<BoardState<W, L>, AllocError>
+    pub(crate) fn open(alloc: Global, calls: Book<L>) -> Result<BoardState<W, L>, AllocError>
         requires { calls.total ≡ 0 }
         ensures { IfOk result (λ state. events_of state ≡ []) }
     {
@@ -56,6 +56,15 @@ impl<W: Work, L: Ledger> BoardState<W, L> {
         ensures { result.now ≡ events_of self.now }
     {
         &self.history
+    }
+
+    /// Changes nothing, and tells that a whole share has counted each event.
+    pub(crate) fn audit(&mut self, all: &mut Share<L>)
+        requires { all.old.parts ≡ L.parts }
+        ensures same { events_of self.new ≡ events_of self.old }
+        ensures counted { length (events_of self.new) ≡ all.old.amount }
+    {
+        self.calls.audit(all);
     }
 
     /// Puts a task under a new ticket, and takes the room for the ticket's later events.
