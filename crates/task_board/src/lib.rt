@@ -1,0 +1,24 @@
+//! The board: tasks that threads hand one another under tickets, in one legal history of calls.
+#![tactic(auto)]
+
+mod board;
+mod content;
+mod event;
+mod fault;
+mod gate;
+mod history;
+mod seat;
+mod state;
+mod work;
+mod worker;
+
+pub use board::Board;
+pub use content::{Answer, Content};
+pub use event::{Event, Stand, Step, Ticket};
+pub use fault::{PutFault, Waits};
+pub use gate::{Gate, NoGate};
+pub use history::{History, MOST_SEATS, MOST_TICKETS};
+pub use seat::Seat;
+pub use state::BoardState;
+pub use work::Work;
+pub use worker::serve;
