@@ -5,12 +5,6 @@ use Rattle.sign_rules.specs.declared.sign.Sign.{Sign}
 use Rattle.sign_rules.specs.declared.sign.Sign.TheVariants.{Over, Under}
 use Rattle.search_cursor.specs.Place.{Place, stands_before, is_passed, list_before, begins_with}
 
-pub not_itself : (s : List Sign) (x : Bool) → stands_before s x s x ≡ false
-not_itself [] true = refl
-not_itself [] false = refl
-not_itself (Over ∷ s) x = not_itself s x
-not_itself (Under ∷ s) x = not_itself s x
-
 pub transitive : (s r t : List Sign) (x y z : Bool) → stands_before s x r y ≡ true → stands_before r y t z ≡ true → stands_before s x t z ≡ true
 transitive [] [] t true y z h k = absurd (true≢false (sym h))
 transitive [] [] t false false z h k = absurd (true≢false (sym h))

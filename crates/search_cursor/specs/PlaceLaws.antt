@@ -1,6 +1,6 @@
 -- What stands before a place, as a sign is put behind its signs or taken away.
 use Rattle.std.specs.Prelude.{◌≡◌, Bool, true, false, ◌||◌, List, [], ◌∷◌, ◌++◌}
-use Rattle.std.proofs.Common.{refl, sym, ap}
+use Rattle.std.proofs.Common.{◌≤◌, length, arith, refl, sym, ap}
 use Rattle.std.proofs.lemmas.Bool.{true≢false}
 use Rattle.sign_rules.specs.declared.sign.Sign.{Sign}
 use Rattle.sign_rules.specs.declared.sign.Sign.TheVariants.{Over, Under}
@@ -15,7 +15,14 @@ is_list (Under ∷ s) (Under ∷ r) = is_list s r
 is_list (Over ∷ _) (Under ∷ _) = false
 is_list (Under ∷ _) (Over ∷ _) = false
 
--- a list that is not empty stands before the empty list's place exactly where that is past
+-- no place stands before itself
+pub not_itself : (s : List Sign) (x : Bool) → stands_before s x s x ≡ false
+not_itself [] true = refl
+not_itself [] false = refl
+not_itself (Over ∷ s) x = not_itself s x
+not_itself (Under ∷ s) x = not_itself s x
+
+-- every list stands before the end, and none before the start
 end-after : (list : List Sign) → stands_before list false [] true ≡ true
 end-after [] = refl
 end-after (_ ∷ _) = refl
@@ -94,3 +101,29 @@ pub is_list-refl : (list : List Sign) → is_list list list ≡ true
 is_list-refl [] = refl
 is_list-refl (Over ∷ list) = is_list-refl list
 is_list-refl (Under ∷ list) = is_list-refl list
+
+pub begins_with-longer : (front list rest : List Sign) → begins_with front list ≡ true → begins_with front (list ++ rest) ≡ true
+begins_with-longer [] list rest e = refl
+begins_with-longer (_ ∷ front) [] rest e = absurd (true≢false (sym e))
+begins_with-longer (Over ∷ front) (Over ∷ list) rest e = begins_with-longer front list rest e
+begins_with-longer (Under ∷ front) (Under ∷ list) rest e = begins_with-longer front list rest e
+begins_with-longer (Over ∷ front) (Under ∷ list) rest e = absurd (true≢false (sym e))
+begins_with-longer (Under ∷ front) (Over ∷ list) rest e = absurd (true≢false (sym e))
+
+pub begins_with-shorter : (front list rest : List Sign) → begins_with front (list ++ rest) ≡ true → length front ≤ length list
+    → begins_with front list ≡ true
+begins_with-shorter [] list rest e short = refl
+begins_with-shorter (_ ∷ front) [] rest e short = absurd (omega (arith, short))
+begins_with-shorter (Over ∷ front) (Over ∷ list) rest e short = begins_with-shorter front list rest e (omega (arith, short))
+begins_with-shorter (Under ∷ front) (Under ∷ list) rest e short = begins_with-shorter front list rest e (omega (arith, short))
+begins_with-shorter (Over ∷ front) (Under ∷ list) rest e short = absurd (true≢false (sym e))
+begins_with-shorter (Under ∷ front) (Over ∷ list) rest e short = absurd (true≢false (sym e))
+
+pub begins_with-same : (front list : List Sign) → begins_with front list ≡ true → length list ≤ length front → list ≡ front
+begins_with-same [] [] e short = refl
+begins_with-same [] (_ ∷ list) e short = absurd (omega (arith, short))
+begins_with-same (_ ∷ front) [] e short = absurd (true≢false (sym e))
+begins_with-same (Over ∷ front) (Over ∷ list) e short = ap (λ l. Over ∷ l) (begins_with-same front list e (omega (arith, short)))
+begins_with-same (Under ∷ front) (Under ∷ list) e short = ap (λ l. Under ∷ l) (begins_with-same front list e (omega (arith, short)))
+begins_with-same (Over ∷ front) (Under ∷ list) e short = absurd (true≢false (sym e))
+begins_with-same (Under ∷ front) (Over ∷ list) e short = absurd (true≢false (sym e))

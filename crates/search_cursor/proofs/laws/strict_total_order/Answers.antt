@@ -1,6 +1,7 @@
 use Rattle.std.proofs.Common.{◌≡◌, ◌⊎◌, true, inl, inr}
 use Rattle.search_cursor.specs.Place.{Place, is_before}
-use Rattle.search_cursor.proofs.Orders.{not_itself, transitive, total, same_place}
+use Rattle.search_cursor.specs.PlaceLaws.{not_itself}
+use Rattle.search_cursor.proofs.Orders.{transitive, total, same_place}
 use Rattle.search_cursor.proofs.laws.strict_total_order.Goals as goal
 
 of_total : (p q : Place) → (is_before p q ≡ true) ⊎ (((p.signs ≡ q.signs) × (p.past ≡ q.past)) ⊎ (is_before q p ≡ true))
