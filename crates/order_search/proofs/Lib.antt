@@ -1,0 +1,6 @@
+pub mod Filters
+pub mod AllLists
+pub mod Walks
+pub mod Moves
+pub mod Measure
+pub mod Within

@@ -1,0 +1,4 @@
+pub mod Place
+pub mod Cases
+pub mod Laws
+pub mod PlaceLaws

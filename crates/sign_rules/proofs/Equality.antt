@@ -1,0 +1,65 @@
+-- Equal rules, by the derived test.
+use Rattle.std.proofs.Common.{◌≡◌, Bool, true, false, List, [], ◌∷◌, refl, sym}
+use Rattle.std.proofs.Math.Bool.{beq}
+use Rattle.std.proofs.lemmas.Bool.{and_parts, and_from, eqb-true, eq-eqb, true≢false}
+use lib.Pointwise.{pointwise}
+use Rattle.sign_rules.specs.declared.sign.Sign.{Sign}
+use Rattle.sign_rules.specs.declared.sign.Sign.TheVariants.{Over, Under}
+use Rattle.sign_rules.specs.declared.rule.Rule.{Rule}
+use Rattle.sign_rules.specs.declared.rule.Rule.TheVariants.{Fixed, Equal, Even, NotCyclic}
+use Rattle.sign_rules.specs.contracts.rule.RulePartialEq.TheImpl as rule
+use Rattle.sign_rules.specs.contracts.sign.SignPartialEq.TheImpl as sign
+
+pub sign_is : (a b : Sign) → sign.eq-value.it a b ≡ true → a ≡ b
+sign_is Over Over e = refl
+sign_is Over Under e = absurd (true≢false (sym e))
+sign_is Under Over e = absurd (true≢false (sym e))
+sign_is Under Under e = refl
+
+pub sign_same : (a : Sign) → sign.eq-value.it a a ≡ true
+sign_same Over = refl
+sign_same Under = refl
+
+bool_is : (a b : Bool) → beq a b ≡ true → a ≡ b
+bool_is true true e = refl
+bool_is true false e = absurd (true≢false (sym e))
+bool_is false true e = absurd (true≢false (sym e))
+bool_is false false e = refl
+
+bool_same : (a : Bool) → beq a a ≡ true
+bool_same true = refl
+bool_same false = refl
+
+pub rule_is : (a b : Rule) → rule.eq-value.it a b ≡ true → a ≡ b
+rule_is (Fixed p s) (Fixed q t) e =
+    let h = and_parts _ _ e in
+    let i = eqb-true p q h.0 in let j = sign_is s t h.1 in (cc)
+rule_is (Equal p q x) (Equal r s y) e =
+    let h = and_parts _ _ e in let k = and_parts _ _ h.1 in
+    let i = eqb-true p r h.0 in let j = eqb-true q s k.0 in let l = bool_is x y k.1 in (cc)
+rule_is (Even p q r s x) (Even t u v w y) e =
+    let h = and_parts _ _ e in let k = and_parts _ _ h.1 in let m = and_parts _ _ k.1 in let n = and_parts _ _ m.1 in
+    let a = eqb-true p t h.0 in let b = eqb-true q u k.0 in let c = eqb-true r v m.0 in let d = eqb-true s w n.0 in
+    let l = bool_is x y n.1 in (cc)
+rule_is (NotCyclic p q r) (NotCyclic t u v) e =
+    let h = and_parts _ _ e in let k = and_parts _ _ h.1 in
+    let a = eqb-true p t h.0 in let b = eqb-true q u k.0 in let c = eqb-true r v k.1 in (cc)
+rule_is a b e = absurd (true≢false (sym e))
+
+pub rule_same : (a : Rule) → rule.eq-value.it a a ≡ true
+rule_same (Fixed p s) = and_from _ _ (eq-eqb p p refl) (sign_same s)
+rule_same (Equal p q x) = and_from _ _ (eq-eqb p p refl) (and_from _ _ (eq-eqb q q refl) (bool_same x))
+rule_same (Even p q r s x) =
+    and_from _ _ (eq-eqb p p refl) (and_from _ _ (eq-eqb q q refl) (and_from _ _ (eq-eqb r r refl) (and_from _ _ (eq-eqb s s refl) (bool_same x))))
+rule_same (NotCyclic p q r) = and_from _ _ (eq-eqb p p refl) (and_from _ _ (eq-eqb q q refl) (eq-eqb r r refl))
+
+pub rules_are : (xs ys : List Rule) → pointwise rule.eq-value.it xs ys ≡ true → xs ≡ ys
+rules_are [] [] e = refl
+rules_are [] (y ∷ ys) e = absurd (true≢false (sym e))
+rules_are (x ∷ xs) [] e = absurd (true≢false (sym e))
+rules_are (x ∷ xs) (y ∷ ys) e =
+    let h = and_parts _ _ e in let i = rule_is x y h.0 in let j = rules_are xs ys h.1 in (cc)
+
+pub rules_same : (xs : List Rule) → pointwise rule.eq-value.it xs xs ≡ true
+rules_same [] = refl
+rules_same (x ∷ xs) = and_from _ _ (rule_same x) (rules_same xs)

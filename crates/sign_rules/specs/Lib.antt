@@ -1,0 +1,7 @@
+pub mod Signs
+pub mod Rule
+pub mod Rules
+pub mod RuleLaws
+pub mod RuleIndex
+pub mod ConsistencyLaws
+pub mod Laws

@@ -1,0 +1,36 @@
+-- Rules on the signs of two, three or four pairs, or of one.
+use Rattle.std.specs.Prelude.{ℕ, ◌%◌, ◌==◌, Bool, true, false, not, ◌&&◌, List, [], ◌∷◌, nat_lt, count_by}
+use Rattle.std.specs.List.{list_all, list_any}
+use Rattle.sign_rules.specs.declared.sign.Sign.{Sign}
+use Rattle.sign_rules.specs.declared.rule.Rule.{Rule}
+use Rattle.sign_rules.specs.declared.rule.Rule.TheVariants.{Fixed, Equal, Even, NotCyclic}
+use Rattle.sign_rules.specs.Signs.{is_over, over_at}
+
+-- the pairs that a rule names
+abbrev pub pairs_of : Rule → List ℕ
+pairs_of (Fixed p _) = p ∷ []
+pairs_of (Equal p q _) = p ∷ q ∷ []
+pairs_of (Even p q r s _) = p ∷ q ∷ r ∷ s ∷ []
+pairs_of (NotCyclic ij jk ik) = ij ∷ jk ∷ ik ∷ []
+
+-- whether two tests have one answer
+abbrev pub is_same : Bool → Bool → Bool
+is_same true b = b
+is_same false b = not b
+
+abbrev pub are_different : List ℕ → Bool
+are_different [] = true
+are_different (p ∷ ps) = not (list_any (λ q. p == q) ps) && are_different ps
+
+-- whether the rule names different pairs, all of them below the number of pairs
+abbrev pub is_rule_on : ℕ → Rule → Bool
+is_rule_on pairs rule = list_all (λ p. nat_lt p pairs) (pairs_of rule) && are_different (pairs_of rule)
+
+-- whether a list with a sign for each pair that the rule names meets it
+abbrev pub is_met : List Sign → Rule → Bool
+is_met signs (Fixed p sign) = is_same (over_at signs p) (is_over sign)
+is_met signs (Equal p q same) = is_same (is_same (over_at signs p) (over_at signs q)) same
+is_met signs (Even p q r s odd) = is_same (count_by (over_at signs) (p ∷ q ∷ r ∷ s ∷ []) % 2 == 1) odd
+is_met signs (NotCyclic ij jk ik) =
+    not (over_at signs ij && over_at signs jk && not (over_at signs ik))
+    && not (not (over_at signs ij) && not (over_at signs jk) && over_at signs ik)
