@@ -13,7 +13,7 @@ use Rattle.plane_geometry.specs.Stored.{IsStretch}
 use Rattle.plane_geometry.specs.Stretch.{Stretch, is_end, is_crossing, has_same_ends, ends_at_ends, MeetAtEnds}
 use Rattle.plane_geometry.specs.SideLaws.{lex_sign, order_of, order_self, order_turned, side_same, side_from, square_sign, along_lex}
 use Rattle.plane_geometry.specs.StretchLaws.{order_from, order_to, turned_zero, side_to, LiesOn, ends_order, to_in_line, along_sign, on_from_parts, end_from, end_to}
-use Rattle.plane_geometry.specs.CommonPoints.{from_lies, to_lies, meeting_is}
+use Rattle.plane_geometry.specs.CommonPointLaws.{from_lies, to_lies, meeting_is}
 use Rattle.plane_geometry.specs.DirectionLaws.{opposite_number, along_parts, along_back}
 use Rattle.crease_model.specs.declared.Piece.{Piece}
 use Rattle.crease_model.specs.Rules.{AllMeetAtEnds}
