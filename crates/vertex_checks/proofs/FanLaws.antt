@@ -80,32 +80,32 @@ with_ray_sorted (q ∷ qs) r up new =
 
 -- ---- how a piece leaves a point
 
-same_point : (p q : Point) → is_same_position (position_of p) (position_of q) ≡ true → p ≡ q
+pub same_point : (p q : Point) → is_same_position (position_of p) (position_of q) ≡ true → p ≡ q
 same_point p q e = point_is p q (zero_is (order_of (position_of p) (position_of q)) (sym (same_is (position_of p) (position_of q)) ∙ e))
 
-same_itself : (p : Point) → is_same_position (position_of p) (position_of p) ≡ true
+pub same_itself : (p : Point) → is_same_position (position_of p) (position_of p) ≡ true
 same_itself p = same_is (position_of p) (position_of p) ∙ ap is_zero (order_self (position_of p))
 
 module _ (v : Point) (p : Piece) where
-  abbrev low : Point
+  abbrev pub low : Point
   low = lesser_end p.segment
 
-  abbrev high : Point
+  abbrev pub high : Point
   high = greater_end p.segment
 
-  abbrev begins : Bool
+  abbrev pub begins : Bool
   begins = is_same_position (position_of low) (position_of v)
 
-  abbrev arrives : Bool
+  abbrev pub arrives : Bool
   arrives = is_same_position (position_of high) (position_of v)
 
-  abbrev onward : Ray
+  abbrev pub onward : Ray
   onward = ray_of p (direction_number p.segment)
 
-  abbrev back : Ray
+  abbrev pub back : Ray
   back = ray_of p (direction_number p.segment + 8)
 
-  ends_differ : is_same_position (position_of low) (position_of high) ≡ false
+  pub ends_differ : is_same_position (position_of low) (position_of high) ≡ false
   ends_differ = same_is (position_of low) (position_of high) ∙ ap is_zero (ends_order (stretch_of p.segment) p.segment.stretch)
 
   pub leaves : (r : Ray) → ray_at v p ≡ Some r → Leaves v p r

@@ -49,7 +49,7 @@ fan_from_length : (v : Point) (pieces : List Piece) (rays : List Ray) → length
 fan_from_length v [] rays = omega arith
 fan_from_length v (p ∷ ps) rays = omega (arith, fan_from_length v ps (with_ray_if rays (ray_at v p)), with_ray_if_length rays (ray_at v p))
 
-fan_length : (v : Point) (pieces : List Piece) → length (fan_of v pieces) ≤ length pieces
+pub fan_length : (v : Point) (pieces : List Piece) → length (fan_of v pieces) ≤ length pieces
 unfolding fan_of
 fan_length v pieces = omega (arith, fan_from_length v pieces [])
 

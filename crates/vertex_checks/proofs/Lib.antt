@@ -2,6 +2,8 @@ pub mod SortedLists
 pub mod LeavesApart
 pub mod FanLaws
 pub mod VertexLaws
+pub mod SortedVertices
+pub mod FanMapLaws
 pub mod Lengths
 pub mod KawasakiLaws
 pub mod FaultLaws

@@ -15,7 +15,7 @@ use Rattle.line_split.specs.PointLaws.{with_point_new, with_point_old, with_poin
 use Rattle.vertex_checks.specs.Vertices.{IsEnd, IsInnerEnd, is_inside, with_inner, with_inner_ends, vertices_from, vertices_of}
 use Rattle.vertex_checks.specs.Laws.{VerticesAreInnerEnds}
 
-inside_is : (p : Place) → is_inside p ≡ true → p ≡ Inside
+pub inside_is : (p : Place) → is_inside p ≡ true → p ≡ Inside
 inside_is Outside e = absurd (cc)
 inside_is Border e = absurd (cc)
 inside_is Inside e = refl

@@ -1,5 +1,5 @@
 -- The vertices that are checked: the ends of pieces strictly inside the sheet, in ascending order.
-use Rattle.std.specs.Prelude.{◌≡◌, ◌⊎◌, Bool, true, false, List, [], ◌∷◌, Contains, if◌then◌else◌}
+use Rattle.std.specs.Prelude.{◌≡◌, ◌⊎◌, Bool, true, false, List, [], ◌∷◌, ◌++◌, flat_map, Contains, if◌then◌else◌}
 use Rattle.plane_geometry.specs.declared.Point.{Point}
 use Rattle.plane_geometry.specs.Position.{position_of}
 use Rattle.plane_geometry.specs.SegmentView.{lesser_end, greater_end}
@@ -42,3 +42,15 @@ vertices_from corners (p ∷ ps) points = vertices_from corners ps (with_inner_e
 
 abbrev pub vertices_of : PatternView → List Point
 vertices_of pattern = vertices_from pattern.corners pattern.pieces []
+
+-- the point, if it is strictly inside the sheet
+abbrev pub inner_point : List Point → Point → List Point
+inner_point corners v = if is_inside (place_of corners (position_of v)) then v ∷ [] else []
+
+-- the ends of the piece that are
+abbrev pub inner_ends : List Point → Piece → List Point
+inner_ends corners p = inner_point corners (lesser_end p.segment) ++ inner_point corners (greater_end p.segment)
+
+-- those of all pieces, as often as they are there
+abbrev pub inner_ends_of : PatternView → List Point
+inner_ends_of pattern = flat_map (inner_ends pattern.corners) pattern.pieces

@@ -2,14 +2,17 @@
 
 ghost use Rattle.std.specs.Prelude.{◌≡◌, ◌<◌, ◌≤◌, ◌↔◌, ◌∷◌, ◌++◌, [], length, Contains, IfOk, OnOk};
 ghost use Rattle.isometry_map.specs.LinearView.{linear_number};
+ghost use Rattle.plane_geometry.specs.declared.Point.{Point};
+ghost use Rattle.vertex_checks.specs.Fan.{fan_of};
+ghost use Rattle.vertex_checks.specs.FanMap.{kept_fan};
 ghost use Rattle.vertex_checks.specs.Sectors.{is_same_kind, count_of_kind};
 ghost use Rattle.vertex_checks.specs.Faults.{IsFault, KawasakiIsByAngles, IsInOrder, comes_round, kawasaki_faults, maekawa_faults, fan_faults, vertex_fault, vertex_faults, faults_at, faults_of};
 
-use crate::fans::{Ray, fan_at};
+use crate::fans::{Fans, Ray, fan_in, fans_of};
 use crate::faults::{LocalFault, VertexFault};
 use crate::sectors::{push_little_faults, same_kind};
 use crate::vertices::vertices;
-use crease_model::{Kind, Pattern};
+use crease_model::{Kind, Pattern, Piece};
 use isometry_map::Linear;
 use plane_geometry::Point;
 use std::alloc::{AllocError, Global};
@@ -70,11 +73,7 @@ fn push_maekawa(faults: &mut Vec<VertexFault>, v: &Point, fan: &[Ray]) -> Result
     Ok(())
 }
 
-pub(crate) fn push_fan(
-    faults: &mut Vec<VertexFault>,
-    v: &Point,
-    fan: &[Ray],
-) -> Result<(), AllocError>
+fn push_fan(faults: &mut Vec<VertexFault>, v: &Point, fan: &[Ray]) -> Result<(), AllocError>
     requires { length fan.now ≤ 2000 }
     ensures { OnOk result (faults.new.items ≡ faults.old.items ++ vertex_faults v.now (fan_faults fan.now)) }
 {
@@ -83,25 +82,28 @@ pub(crate) fn push_fan(
     push_little_faults(faults, v, fan)
 }
 
-fn push_vertex(
-    alloc: Global,
+pub(crate) fn push_vertex(
     faults: &mut Vec<VertexFault>,
-    pattern: &Pattern,
+    pieces: &[Piece],
+    fans: &Fans,
     v: &Point,
 ) -> Result<(), AllocError>
-    ensures { OnOk result (faults.new.items ≡ faults.old.items ++ faults_at pattern.now v.now) }
+    requires few { length pieces.now ≤ 2000 }
+    requires kept { (q : Point) → kept_fan fans.now q ≡ fan_of q pieces.now }
+    ensures { OnOk result (faults.new.items ≡ faults.old.items ++ vertex_faults v.now (fan_faults (fan_of v.now pieces.now))) }
 {
-    let fan = fan_at(alloc, v, pattern.pieces())?;
-    push_fan(faults, v, fan.as_slice())
+    push_fan(faults, v, fan_in(fans, v))
 }
 
 #[tactic(auto, unfolding(crate::specs::Faults::faults_of))]
 fn all_faults(alloc: Global, pattern: &Pattern) -> Result<Vec<VertexFault>, AllocError>
     ensures { IfOk result (λ faults. faults.items ≡ faults_of pattern.now) }
 {
+    let pieces = pattern.pieces();
+    let fans = fans_of(alloc, pieces)?;
     let mut faults = Vec::new(alloc);
     for v in vertices(alloc, pattern)?.as_slice() {
-        push_vertex(alloc, &mut faults, pattern, v)?;
+        push_vertex(&mut faults, pieces, &fans, v)?;
     }
     Ok(faults)
 }

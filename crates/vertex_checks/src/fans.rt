@@ -1,12 +1,15 @@
-//! The creases that leave a vertex.
+//! The creases that leave each vertex.
 
-ghost use Rattle.std.specs.Prelude.{◌≡◌, ◌+◌, ◌≤◌, ◌<◌, length, ◌++◌, ◌∷◌, take, drop, IfOk, OnOk};
+ghost use Rattle.std.specs.Prelude.{◌≡◌, ◌+◌, ◌≤◌, ◌<◌, length, ◌++◌, ◌∷◌, take, drop, IfOk, OnOk, if◌then◌else◌};
+ghost use Rattle.plane_geometry.specs.declared.Point.{Point};
 ghost use Rattle.plane_geometry.specs.DirView.{dir_number};
-ghost use Rattle.plane_geometry.specs.Position.{position_of, is_same_position};
 ghost use Rattle.vertex_checks.specs.Fan.{dir_of, ray_of, ray_at, with_ray, with_ray_if, fan_from, fan_of};
+ghost use Rattle.vertex_checks.specs.FanMap.{equal_points, kept_fan};
 
 use crease_model::{Kind, Piece};
+use indexmap::IndexMap;
 use plane_geometry::{Dir, Point};
+use smallvec::SmallVec;
 use std::alloc::{AllocError, Global};
 
 /// A crease that leaves a vertex: its direction from there, and its kind.
@@ -15,6 +18,19 @@ pub struct Ray {
     pub dir: Dir,
     pub kind: Kind,
 }
+
+impl Default for Ray {
+    // the free places of a small vector hold it
+    fn default() -> Ray {
+        Ray {
+            dir: dir_at(0),
+            kind: Kind::Edge,
+        }
+    }
+}
+
+/// The creases at each end of a piece, by their directions.
+pub(crate) type Fans = IndexMap<Point, SmallVec<Ray, 8>>;
 
 // The direction of this number, modulo 16.
 fn dir_at(number: u8) -> Dir
@@ -32,27 +48,6 @@ fn ray_to(piece: &Piece, number: u8) -> Ray
     }
 }
 
-// Whether both are one point. Equal points have equal triples, which is quicker to see than their order.
-fn is_at(end: &Point, v: &Point) -> bool
-    ensures { result ≡ is_same_position (position_of end.now) (position_of v.now) }
-{
-    end == v
-}
-
-// How a piece leaves a point, if it does.
-fn ray_at(v: &Point, piece: &Piece) -> Option<Ray>
-    ensures { result ≡ ray_at v.now piece.now }
-{
-    let number = piece.segment.dir().number();
-    if is_at(piece.segment.from(), v) {
-        Some(ray_to(piece, number))
-    } else if is_at(piece.segment.to(), v) {
-        Some(ray_to(piece, number + 8))
-    } else {
-        None
-    }
-}
-
 // Where a ray goes among rays by their directions.
 fn place_for(rays: &[Ray], ray: &Ray) -> usize
     ensures bound { result ≤ length rays.now }
@@ -66,25 +61,42 @@ fn place_for(rays: &[Ray], ray: &Ray) -> usize
     rays.len()
 }
 
-fn insert_ray_at(rays: &mut Vec<Ray>, v: &Point, piece: &Piece) -> Result<(), AllocError>
-    ensures value { OnOk result (rays.new.items ≡ with_ray_if rays.old.items (ray_at v.now piece.now)) }
-    ensures few { OnOk result (length rays.new.items ≤ length rays.old.items + 1) }
+/// The creases that leave a point, by their directions.
+pub(crate) fn fan_in<'a>(fans: &'a Fans, v: &Point) -> &'a [Ray]
+    ensures { result.now ≡ kept_fan fans.now v.now }
 {
-    if let Some(ray) = ray_at(v, piece) {
-        rays.insert(place_for(rays.as_slice(), &ray), ray)?;
+    match fans.get(v) {
+        Some(fan) => fan.as_slice(),
+        None => &[],
     }
+}
+
+fn add_ray(alloc: Global, fans: &mut Fans, v: &Point, ray: Ray) -> Result<(), AllocError>
+    ensures { OnOk result ((q : Point) → kept_fan fans.new q ≡ (if equal_points v.now q then with_ray (kept_fan fans.old v.now) ray else kept_fan fans.old q)) }
+{
+    let mut fan = SmallVec::from_slice(alloc, fan_in(fans, v))?;
+    let place = place_for(fan.as_slice(), &ray);
+    fan.insert(place, ray)?;
+    fans.insert(*v, fan)?;
     Ok(())
 }
 
-/// The creases that leave a point, by their directions.
-#[tactic(auto, unfolding(crate::specs::Fan::fan_of))]
-pub fn fan_at(alloc: Global, v: &Point, pieces: &[Piece]) -> Result<Vec<Ray>, AllocError>
-    ensures value { IfOk result (λ rays. rays.items ≡ fan_of v.now pieces.now) }
-    ensures few { IfOk result (λ rays. length rays.items ≤ length pieces.now) }
+fn add_piece(alloc: Global, fans: &mut Fans, piece: &Piece) -> Result<(), AllocError>
+    ensures { OnOk result ((q : Point) → kept_fan fans.new q ≡ with_ray_if (kept_fan fans.old q) (ray_at q piece.now)) }
 {
-    let mut rays = Vec::new(alloc);
+    let number = piece.segment.dir().number();
+    add_ray(alloc, fans, piece.segment.from(), ray_to(piece, number))?;
+    add_ray(alloc, fans, piece.segment.to(), ray_to(piece, number + 8))
+}
+
+/// The creases that leave each point.
+#[tactic(auto, unfolding(crate::specs::Fan::fan_of))]
+pub(crate) fn fans_of(alloc: Global, pieces: &[Piece]) -> Result<Fans, AllocError>
+    ensures { IfOk result (λ fans. (q : Point) → kept_fan fans q ≡ fan_of q pieces.now) }
+{
+    let mut fans = IndexMap::new(alloc);
     for piece in pieces {
-        insert_ray_at(&mut rays, v, piece)?;
+        add_piece(alloc, &mut fans, piece)?;
     }
-    Ok(rays)
+    Ok(fans)
 }

@@ -2,8 +2,8 @@
 
 ghost use Rattle.std.specs.Prelude.{◌≤◌, length};
 
-use crate::checking::push_fan;
-use crate::fans::fan_at;
+use crate::checking::push_vertex;
+use crate::fans::fans_of;
 use crate::write_faults;
 use crease_model::{Kind, Piece};
 use plane_geometry::{Point, Segment};
@@ -37,9 +37,9 @@ fn text_at(alloc: Global, pieces: &[Piece], x: i64, y: i64) -> Result<Vec<u8>, F
     requires { length pieces.now ≤ 2000 }
 {
     let v = whole(x, y)?;
-    let fan = fan_at(alloc, &v, pieces)?;
+    let fans = fans_of(alloc, pieces)?;
     let mut faults = Vec::new(alloc);
-    push_fan(&mut faults, &v, fan.as_slice())?;
+    push_vertex(&mut faults, pieces, &fans, &v)?;
     let mut out = Vec::new(alloc);
     write_faults(&mut out, faults.as_slice())?;
     Ok(out)
