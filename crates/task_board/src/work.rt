@@ -5,9 +5,9 @@ use std::alloc::{AllocError, Global};
 
 /// Tasks, and how they are performed.
 pub trait Work {
-    type Task: Send + Sync + Drop;
+    type Task: Drop;
 
-    type Outcome: Send + Drop;
+    type Outcome: Drop;
     /// The plain numbers and lists of a task. No value of it is made.
     type Stands;
 

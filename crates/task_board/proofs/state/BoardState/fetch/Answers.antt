@@ -15,8 +15,8 @@ invariant_of-self-then-not-found g c =
       fits = missed_fits (map things_in s.contents.items) s.history c.fetch.new.self c.number.result c.args.ticket s.fits missed;
     }
 
-pub replaced-content-requires-after_bounds : goal.replaced-content-requires-after_bounds
-replaced-content-requires-after_bounds g c κs within =
+pub replaced-content-requires : goal.replaced-content-requires
+replaced-content-requires g c =
     let s = c.args.self.now in
     let found = rw c.if-not-found.false at c.in_ok-found.ensures.ok in
     let fits = fetch_fits (map things_in s.contents.items) s.history c.fetch.new.self c.number.result c.args.ticket s.fits found in
@@ -33,8 +33,8 @@ invariant_of-self-2 g c =
       fits = rw (c.replaced-content.ensures.after, map-put_at) fits.1;
     }
 
-pub answer_of-requires-after_bounds : goal.answer_of-requires-after_bounds
-answer_of-requires-after_bounds g c κs within =
+pub answer_of-requires : goal.answer_of-requires
+answer_of-requires g c =
     let s = c.args.self.now in
     let found = rw c.if-not-found.false at c.in_ok-found.ensures.ok in
     let fits = fetch_fits (map things_in s.contents.items) s.history c.fetch.new.self c.number.result c.args.ticket s.fits found in

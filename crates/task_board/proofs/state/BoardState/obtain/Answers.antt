@@ -16,8 +16,8 @@ invariant_of-self-in-Some g c =
       fits = rw (c.replaced-content.ensures.after, map-put_at) fits;
     }
 
-pub answer_of-requires-after_bounds : goal.answer_of-requires-after_bounds
-answer_of-requires-after_bounds g c κs within =
+pub answer_of-requires : goal.answer_of-requires
+answer_of-requires g c =
     let s = c.args.self.now in
     let out = rw (c.in-Some.is, c.if-found.true) at c.in_ok-obtained.ensures in
     let fits = obtain_fits (map things_in s.contents.items) s.history c.obtain.new.self c.number.result c.args.ticket s.fits out in

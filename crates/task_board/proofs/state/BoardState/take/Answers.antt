@@ -16,8 +16,8 @@ invariant_of-self-in-Some g c =
       fits = rw (c.replaced-content.ensures.after, map-put_at) fits.1;
     }
 
-pub task_of-requires-after_bounds : goal.task_of-requires-after_bounds
-task_of-requires-after_bounds g c κs within =
+pub task_of-requires : goal.task_of-requires
+task_of-requires g c =
     let s = c.args.self.now in
     let taken = rw c.in-Some.is at c.in_ok-taken.ensures in
     let fits = take_fits (map things_in s.contents.items) s.history c.take.new.self c.number.result c.in-Some.ticket s.fits taken in
