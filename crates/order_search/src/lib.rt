@@ -4,6 +4,8 @@
 
 mod search;
 mod step;
+#[cfg(test)]
+mod tests;
 mod walking;
 
 pub use search::Search;

@@ -27,6 +27,13 @@ impl Position {
         )
     }
 
+    /// Whether the positions are the same.
+    pub fn same(&self, other: &Position) -> bool
+        ensures { IsTrue result ↔ (place_of self.now ≡ place_of other.now) }
+    {
+        self.past == other.past && self.signs.same(&other.signs)
+    }
+
     /// An equal position.
     pub fn copy(&self) -> Result<Position, AllocError>
         ensures { IfOk result (λ p. place_of p ≡ place_of self.now) }

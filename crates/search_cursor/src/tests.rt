@@ -30,6 +30,7 @@ fn ascending(rt: HostRuntime) -> Result<(), Fail> {
             let first = position(rt.alloc(), first)?;
             let second = position(rt.alloc(), second)?.copy()?;
             assert_eq!(rt; first.before(&second), first_place < second_place);
+            assert_eq!(rt; first.same(&second), first_place == second_place);
         }
     }
     let start = Position::start(rt.alloc(), &[Sign::Over])?;

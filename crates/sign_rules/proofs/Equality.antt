@@ -1,5 +1,5 @@
 -- Equal rules, by the derived test.
-use Rattle.std.proofs.Common.{◌≡◌, Bool, true, false, List, [], ◌∷◌, refl, sym}
+use Rattle.std.proofs.Common.{◌≡◌, Bool, true, false, List, [], ◌∷◌, refl, sym, subst, ◌∙◌}
 use Rattle.std.proofs.Math.Bool.{beq}
 use Rattle.std.proofs.lemmas.Bool.{and_parts, and_from, eqb-true, eq-eqb, true≢false}
 use lib.Pointwise.{pointwise}
@@ -53,13 +53,26 @@ rule_same (Even p q r s x) =
     and_from _ _ (eq-eqb p p refl) (and_from _ _ (eq-eqb q q refl) (and_from _ _ (eq-eqb r r refl) (and_from _ _ (eq-eqb s s refl) (bool_same x))))
 rule_same (NotCyclic p q r) = and_from _ _ (eq-eqb p p refl) (and_from _ _ (eq-eqb q q refl) (eq-eqb r r refl))
 
-pub rules_are : (xs ys : List Rule) → pointwise rule.eq-value.it xs ys ≡ true → xs ≡ ys
-rules_are [] [] e = refl
-rules_are [] (y ∷ ys) e = absurd (true≢false (sym e))
-rules_are (x ∷ xs) [] e = absurd (true≢false (sym e))
-rules_are (x ∷ xs) (y ∷ ys) e =
-    let h = and_parts _ _ e in let i = rule_is x y h.0 in let j = rules_are xs ys h.1 in (cc)
+-- lists whose elements a test finds equal, one by one, are equal
+pub lists_are : {X : Type 0} (E : X → X → Bool) → ((a b : X) → E a b ≡ true → a ≡ b) → (xs ys : List X) → pointwise E xs ys ≡ true → xs ≡ ys
+lists_are E is [] [] e = refl
+lists_are E is [] (y ∷ ys) e = absurd (true≢false (sym e))
+lists_are E is (x ∷ xs) [] e = absurd (true≢false (sym e))
+lists_are E is (x ∷ xs) (y ∷ ys) e =
+    let h = and_parts _ _ e in
+    let i = is x y h.0 in
+    let j = lists_are E is xs ys h.1 in
+    (cc)
 
-pub rules_same : (xs : List Rule) → pointwise rule.eq-value.it xs xs ≡ true
-rules_same [] = refl
-rules_same (x ∷ xs) = and_from _ _ (rule_same x) (rules_same xs)
+pub lists_same : {X : Type 0} (E : X → X → Bool) → ((a : X) → E a a ≡ true) → (xs : List X) → pointwise E xs xs ≡ true
+lists_same E same [] = refl
+lists_same E same (x ∷ xs) = and_from _ _ (same x) (lists_same E same xs)
+
+-- what the test of two slices tells of the lists that they show
+pub told_same : {X : Type 0} (E : X → X → Bool) → ((a b : X) → E a b ≡ true → a ≡ b) → ((a : X) → E a a ≡ true)
+    → (told : Bool) (xs ys first second : List X) → told ≡ pointwise E xs ys → xs ≡ first → ys ≡ second
+    → (told ≡ true → first ≡ second) × (first ≡ second → told ≡ true)
+told_same E is same told xs ys first second e f g = (
+  λ h. sym f ∙ lists_are E is xs ys (sym e ∙ h) ∙ g,
+  λ h. e ∙ subst (λ zs. pointwise E xs zs ≡ true) (f ∙ h ∙ sym g) (lists_same E same xs),
+)

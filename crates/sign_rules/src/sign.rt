@@ -1,4 +1,4 @@
-ghost use Rattle.std.specs.Prelude.{◌≡◌, [], ◌∷◌, ◌++◌, ◌<◌, ◌≤◌, length, IfOk, IsSome, ◌↔◌};
+ghost use Rattle.std.specs.Prelude.{◌≡◌, [], ◌∷◌, ◌++◌, ◌<◌, ◌≤◌, length, IfOk, IsSome, IsTrue, ◌↔◌};
 ghost use Rattle.std.specs.Option.{option_to_list};
 ghost use Rattle.sign_rules.specs.Signs.{order_of};
 
@@ -58,6 +58,13 @@ impl Order {
         ensures { result.now ≡ self.now.list }
     {
         self.signs.as_slice()
+    }
+
+    /// Whether the signs are the same.
+    pub fn same(&self, other: &Order) -> bool
+        ensures { IsTrue result ↔ (self.now.list ≡ other.now.list) }
+    {
+        self.signs.as_slice() == other.signs.as_slice()
     }
 
     /// A list of the same signs, with no room promised.

@@ -102,6 +102,7 @@ fn orders_grow_in_their_room(rt: HostRuntime) -> Result<(), Fail> {
     assert_eq!(rt; order.copy()?.as_slice(), [Over, Under].as_slice());
     assert_eq!(rt; order.pop(), Some(Under));
     assert_eq!(rt; order.as_slice(), [Over].as_slice());
+    assert!(rt; order.same(&order.copy()?));
     assert_eq!(rt;
         Order::of(signs_of(rt.alloc(), "-+")?).as_slice(),
         [Under, Over].as_slice()
