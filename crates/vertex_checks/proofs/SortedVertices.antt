@@ -27,8 +27,8 @@ use Rattle.plane_geometry.specs.SegmentLaws.{point_is}
 use Rattle.crease_model.specs.declared.Piece.{Piece}
 use Rattle.crease_model.specs.Sheet.{place_of}
 use Rattle.crease_model.specs.View.{PatternView}
-use Rattle.line_split.specs.Members.{Member, member, contained}
-use Rattle.line_split.specs.Cuts.{is_rising}
+use Rattle.line_split.specs.MemberLaws.{Member, member, contained}
+use Rattle.line_split.specs.Points.{is_rising}
 use Rattle.line_split.specs.PointLaws.{point_order, rising_rest, rising_later, not_before_itself, not_before_each_other}
 use Rattle.vertex_checks.specs.FanMap.{equal_points}
 use Rattle.vertex_checks.specs.Vertices.{IsEnd, is_inside, inner_point, inner_ends, inner_ends_of, vertices_of}
