@@ -1,0 +1,9 @@
+pub mod Steps
+pub mod Sizes
+pub mod Between
+pub mod Edges
+pub mod Quotients
+pub mod Heights
+pub mod Narrowing
+pub mod Ends
+pub mod Cuts
