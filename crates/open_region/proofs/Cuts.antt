@@ -4,17 +4,16 @@ use Rattle.std.specs.Option.{option_map}
 use Rattle.std.proofs.lemmas.Bool.{agree_below, agree_below_at, true≢false}
 use Rattle.surd_number.specs.declared.Sgn.{Sgn}
 use Rattle.surd_number.specs.declared.Sgn.TheVariants.{Neg, Zero, Pos}
-use Rattle.surd_number.specs.Number.{Number, IsSame, IsLess, whole, sum_of, difference_of, product_of, negative_of, sign_of}
+use Rattle.surd_number.specs.Number.{Number, IsSame, IsLess, whole, sum_of, difference_of, product_of, negative_of, sign_of, opposite_sign}
 use Rattle.surd_number.specs.RingTool.{◌⊕◌, ◌⊝◌, ◌⊗◌, ⊖◌, con, v0, v1, v2, v3, v4, v5, v6, v7, v8}
 use Rattle.surd_number.specs.NumberLaws.{number_ring, number_ring_from}
-use Rattle.surd_number.specs.SignLaws.{opposite_sign, sign_of-same, sign_of-zero, sign_of-negative, sign_of-product_positive, sign_of-sum_positive_left, IsLess-positive, zero-IsLess}
+use Rattle.surd_number.specs.SignLaws.{sign_of-same, sign_of-zero, sign_of-negative, sign_of-product_positive, sign_of-sum_positive_left, IsLess-positive, zero-IsLess}
 use Rattle.plane_geometry.specs.Position.{Position, opposite_of, vector_of, cross_of}
-use Rattle.plane_geometry.specs.Direction.{direction_vector, side_of, is_negative, is_zero}
-use Rattle.plane_geometry.specs.SideLaws.{turn_of}
+use Rattle.plane_geometry.specs.Direction.{direction_vector, side_of, is_negative, is_zero, turn_sign}
 use Rattle.open_region.specs.declared.Region.{Region}
 use Rattle.open_region.specs.declared.edge.Edge.{Edge}
 use Rattle.open_region.specs.EdgeView.{line_offset_of}
-use Rattle.open_region.specs.Region.{edge_at, turned_offset, IsLeftOf, IsInRegion, HasPoint, HasPointLeftOf}
+use Rattle.open_region.specs.Region.{edge_at, turned_offset, IsBeyond, IsInRegion, HasPoint, HasPointLeftOf}
 use Rattle.open_region.specs.Strip.{point_along}
 use Rattle.open_region.proofs.Between.{one_dimension}
 use Rattle.open_region.proofs.Edges.{lower_is}
@@ -66,13 +65,13 @@ module _ (r : Region) (p : Position) (inside : IsInRegion p r) (e : ℕ) (flat :
   distance_of : ℕ → Edge → Number
   distance_of n edge = difference_of (cross_of (direction_vector n) p) (turned_offset n (line_offset_of edge))
 
-  positive_distance : (n : ℕ) (o : Option Edge) → IfSome (option_map (λ edge. turned_offset n (line_offset_of edge)) o) (λ x. IsLeftOf x n p) → IfSome (option_map (distance_of n) o) (λ u. IsLess (whole (pos 0)) u)
+  positive_distance : (n : ℕ) (o : Option Edge) → IfSome (option_map (λ edge. turned_offset n (line_offset_of edge)) o) (λ x. IsBeyond x n p) → IfSome (option_map (distance_of n) o) (λ u. IsLess (whole (pos 0)) u)
   unfolding distance_of
   positive_distance n None h = tt
   positive_distance n (Some edge) h =
       (zero-IsLess (distance_of n edge)).1 ((IsLess-positive (turned_offset n (line_offset_of edge)) (cross_of (direction_vector n) p)).0 h)
 
-  left_near : (n : ℕ) (z : Number) → n < 16 → sign_of z ≡ Pos → (o : Option Edge) → IfSome (option_map (distance_of n) o) (λ u. IsLess z u) → IfSome (option_map (λ edge. turned_offset n (line_offset_of edge)) o) (λ x. IsLeftOf x n (point_along p e z))
+  left_near : (n : ℕ) (z : Number) → n < 16 → sign_of z ≡ Pos → (o : Option Edge) → IfSome (option_map (distance_of n) o) (λ u. IsLess z u) → IfSome (option_map (λ edge. turned_offset n (line_offset_of edge)) o) (λ x. IsBeyond x n (point_along p e z))
   unfolding distance_of is_steep IsFlat
   left_near n z few positive None h = tt
   left_near n z few positive (Some edge) h =
@@ -116,17 +115,17 @@ on_a_side r q n few p inside Zero e off = absurd (off refl)
 on_a_side r q n few p inside Pos e off = inl (p, inside, e)
 
 -- a direction that leaves the line
-leaves : (n : ℕ) → n < 8 → (e : ℕ) × IsFlat e × (turn_of n e ≢ Zero)
+leaves : (n : ℕ) → n < 8 → (e : ℕ) × IsFlat e × (turn_sign n e ≢ Zero)
 leaves zero few = (4, second_IsFlat, λ h. cc)
 leaves (suc n) few = (0, first_IsFlat, leaves_first n few)
   where
     is_left : ℕ → Bool
-    is_left k = is_zero (turn_of (suc k) 0)
+    is_left k = is_zero (turn_sign (suc k) 0)
 
     table : agree_below is_left (λ _. false) 7 ≡ true
     table = refl
 
-    leaves_first : (k : ℕ) → suc k < 8 → turn_of (suc k) 0 ≢ Zero
+    leaves_first : (k : ℕ) → suc k < 8 → turn_sign (suc k) 0 ≢ Zero
     leaves_first k few_k h = true≢false (sym (ap is_zero h) ∙ agree_below_at is_left (λ _. false) 7 k table (omega arith))
 
 pub a_cut_keeps : (r : Region) (q : Position) (n : ℕ) → n < 8 → HasPoint r → HasPointLeftOf r q n ⊎ HasPointLeftOf r q (n + 8)
@@ -139,5 +138,5 @@ a_cut_keeps r q n few h = by (side_of q n h.0) refl
         let way = leaves n few in
         let z = near r h.0 h.1 way.0 way.1 in
         let p = point_along h.0 way.0 z.0 in
-        let side : side_of q n p ≡ turn_of n way.0 = off_line (direction_vector n) (direction_vector way.0) q h.0 z.0 e z.1 in
-        on_a_side r q n few p z.2 (turn_of n way.0) side way.2
+        let side : side_of q n p ≡ turn_sign n way.0 = off_line (direction_vector n) (direction_vector way.0) q h.0 z.0 e z.1 in
+        on_a_side r q n few p z.2 (turn_sign n way.0) side way.2

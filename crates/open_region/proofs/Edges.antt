@@ -11,7 +11,7 @@ use Rattle.plane_geometry.specs.Direction.{direction_vector, upper_vector, side_
 use Rattle.plane_geometry.specs.CrossLaws.{cross_opposite}
 use Rattle.plane_geometry.specs.LineLaws.{through_side}
 use Rattle.open_region.specs.Bound.{HoldsAt}
-use Rattle.open_region.specs.Region.{turned_offset, IsLeftOf}
+use Rattle.open_region.specs.Region.{turned_offset, IsBeyond}
 use Rattle.open_region.specs.Strip.{point_along}
 use Rattle.open_region.proofs.Quotients.{less_as}
 
@@ -60,7 +60,7 @@ pub less_right_same : (x y z : Number) → IsSame y z → IsLess x y ↔ IsLess 
 less_right_same x y z e = less_as x y x z (difference_of-same x y x z (IsSame-refl x) e)
 
 -- left of a line through p, by the side of p
-pub left_is_side : (n : ℕ) (o : Number) (p q : Position) → IsSame o (cross_of (direction_vector n) p) → IsLeftOf o n q ↔ (side_of p n q ≡ Pos)
+pub left_is_side : (n : ℕ) (o : Number) (p q : Position) → IsSame o (cross_of (direction_vector n) p) → IsBeyond o n q ↔ (side_of p n q ≡ Pos)
 left_is_side n o p q e =
     let h = IsLess-positive o (cross_of (direction_vector n) q) in
     let side = through_side n o p q e in
@@ -86,15 +86,15 @@ cross_along_opposite d e q f z o h =
     ((v6 ⊝ v8) ⊝ (v2 ⊗ v1 ⊝ v3 ⊗ v0) ⊗ v7) (⊖ v8 ⊝ (⊖ v0 ⊗ (v5 ⊕ v7 ⊗ v3) ⊝ ⊖ v1 ⊗ (v4 ⊕ v7 ⊗ v2))) refl h
 
 module _ (n along : ℕ) (q : Position) (o f z : Number) (through : IsSame (turned_offset n f) (cross_of (direction_vector n) q)) where
-  pub left_along : n < 8 → HoldsAt z (record { slope = cross_of (direction_vector n) (direction_vector along); offset = difference_of o f }) ↔ IsLeftOf (turned_offset n o) n (point_along q along z)
+  pub left_along : n < 8 → HoldsAt z (record { slope = cross_of (direction_vector n) (direction_vector along); offset = difference_of o f }) ↔ IsBeyond (turned_offset n o) n (point_along q along z)
   left_along few =
       let d = direction_vector n in
       let e = direction_vector along in
       let f_is : IsSame f (cross_of d q) = subst (λ t. IsSame t (cross_of d q)) (first_offset n f few) through in
-      subst (λ t. HoldsAt z (record { slope = cross_of d e; offset = difference_of o f }) ↔ IsLeftOf t n (point_along q along z)) (sym (first_offset n o few))
+      subst (λ t. HoldsAt z (record { slope = cross_of d e; offset = difference_of o f }) ↔ IsBeyond t n (point_along q along z)) (sym (first_offset n o few))
       (less_as (difference_of o f) (product_of (cross_of d e) z) o (cross_of d (point_along q along z)) (cross_along d e q f z o f_is))
 
-  pub left_along_opposite : 8 ≤ n → n < 16 → HoldsAt z (record { slope = cross_of (direction_vector along) (direction_vector (n - 8)); offset = difference_of f o }) ↔ IsLeftOf (turned_offset n o) n (point_along q along z)
+  pub left_along_opposite : 8 ≤ n → n < 16 → HoldsAt z (record { slope = cross_of (direction_vector along) (direction_vector (n - 8)); offset = difference_of f o }) ↔ IsBeyond (turned_offset n o) n (point_along q along z)
   left_along_opposite many few =
       let d = direction_vector (n - 8) in
       let e = direction_vector along in
@@ -103,5 +103,5 @@ module _ (n along : ℕ) (q : Position) (o f z : Number) (through : IsSame (turn
       let p = point_along q along z in
       let here : HoldsAt z (record { slope = cross_of e d; offset = difference_of f o }) ↔ IsLess (negative_of o) (cross_of (opposite_of d) p) =
       less_as (difference_of f o) (product_of (cross_of e d) z) (negative_of o) (cross_of (opposite_of d) p) (cross_along_opposite d e q f z o f_is) in
-      subst (λ t. HoldsAt z (record { slope = cross_of e d; offset = difference_of f o }) ↔ IsLeftOf t n p) (sym (second_offset n o many))
+      subst (λ t. HoldsAt z (record { slope = cross_of e d; offset = difference_of f o }) ↔ IsBeyond t n p) (sym (second_offset n o many))
       (subst (λ v. HoldsAt z (record { slope = cross_of e d; offset = difference_of f o }) ↔ IsLess (negative_of o) (cross_of v p)) (sym at) here)

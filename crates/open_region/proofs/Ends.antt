@@ -2,10 +2,10 @@
 use Rattle.std.proofs.Common.{◌≡◌, ◌↔◌, ℕ, ◌+◌, ◌-◌, ◌%◌, ◌<◌, Bool, true, ◌&&◌, [], ◌∷◌, pos, inl, inr, refl, sym, ap, ap₂, subst, ◌∙◌, arith}
 use Rattle.std.proofs.lemmas.Bool.{agree_below, agree_below_at, and_parts, and_from, cases_lt}
 use Rattle.surd_number.specs.declared.Sgn.TheVariants.{Zero, Pos}
-use Rattle.surd_number.specs.Number.{Number, IsSame, whole, sum_of, difference_of, product_of, negative_of, sign_of}
+use Rattle.surd_number.specs.Number.{Number, IsSame, whole, sum_of, difference_of, product_of, negative_of, sign_of, times_sign}
 use Rattle.surd_number.specs.RingTool.{◌⊕◌, ◌⊝◌, ◌⊗◌, ⊖◌, con, v0, v1, v2, v3, v4, v5, v6, v7}
 use Rattle.surd_number.specs.NumberLaws.{number_ring, number_ring_from, number_ring_from_two, is_zero_number, exact_numbers_IsRing, same_from_difference, difference_of-same, product_of-same, IsSame-refl}
-use Rattle.surd_number.specs.SignLaws.{times_sign, sign_of-same}
+use Rattle.surd_number.specs.SignLaws.{sign_of-same}
 use Rattle.plane_geometry.specs.declared.Segment.{Segment}
 use Rattle.plane_geometry.specs.SegmentView.{lesser_end, greater_end, direction_number, stretch_of}
 use Rattle.plane_geometry.specs.Position.{Position, position_of, opposite_of, vector_of, cross_of, dot_of}
@@ -17,8 +17,8 @@ use Rattle.plane_geometry.specs.SideLaws.{lex_sign, order_of, square_sign, along
 use Rattle.plane_geometry.specs.StretchLaws.{zero_is, positive_is, before_is, ends_order, to_in_line, along_sign}
 use Rattle.plane_geometry.specs.DirectionLaws.{along_from_parts, along_is_multiple}
 use Rattle.open_region.specs.declared.Region.{Region}
-use Rattle.open_region.specs.Region.{offset_of, turned_offset, IsLeftOf, IsInRegion}
-use Rattle.open_region.specs.Strip.{point_along}
+use Rattle.open_region.specs.Region.{offset_of, turned_offset, IsBeyond, IsInRegion}
+use Rattle.open_region.specs.Strip.{point_along, IsBetweenEnds}
 use Rattle.open_region.proofs.Edges.{lower_is, less_right_same, left_is_side}
 use Rattle.open_region.proofs.Steps.{some_iff}
 
@@ -175,7 +175,7 @@ cross_same d p q e =
 
 pub region_same : (r : Region) (p q : Position) → IsSameVector p q → IsInRegion p r → IsInRegion q r
 region_same r p q e h n few =
-    some_iff (λ o. IsLeftOf o n p) (λ o. IsLeftOf o n q) (offset_of r n) (λ o. less_right_same o (cross_of (direction_vector n) p) (cross_of (direction_vector n) q) (cross_same (direction_vector n) p q e)) (h n few)
+    some_iff (λ o. IsBeyond o n p) (λ o. IsBeyond o n q) (offset_of r n) (λ o. less_right_same o (cross_of (direction_vector n) p) (cross_of (direction_vector n) q) (cross_same (direction_vector n) p q e)) (h n few)
 
 from_same : (d q p p' : Position) → IsSameVector p p' → sign_of (dot_of d (vector_of q p)) ≡ sign_of (dot_of d (vector_of q p'))
 from_same d q p p' e =
@@ -204,15 +204,12 @@ place_between r s stretch few p between inside =
 
 -- ---- segments
 
-abbrev IsBetweenEnds : Segment → Number → Type 0
-IsBetweenEnds s z = is_between (point_along (position_of (lesser_end s)) (direction_number s % 8) z) (stretch_of s) ≡ true
-
 -- n is the segment's direction, m and m' are the directions across it, f, f', f'' its lesser end and t its greater one
 abbrev IsToldByCuts : Segment → Number → Number → Number → Type 0 → Type 0 → Type 0 → ℕ → ℕ → ℕ → Position → Position → Position → Position → Type 0
 IsToldByCuts s z o u A B C n m m' f f' f'' t =
     IsSame (turned_offset m o) (cross_of (direction_vector m) f) → IsSame (turned_offset m' u) (cross_of (direction_vector m') t) → A
-    → B ↔ (A × IsLeftOf (turned_offset ((n + 12) % 16) o) ((n + 12) % 16) (point_along f' (n % 8) z))
-    → C ↔ (B × IsLeftOf (turned_offset ((n + 4) % 16) u) ((n + 4) % 16) (point_along f'' (n % 8) z))
+    → B ↔ (A × IsBeyond (turned_offset ((n + 12) % 16) o) ((n + 12) % 16) (point_along f' (n % 8) z))
+    → C ↔ (B × IsBeyond (turned_offset ((n + 4) % 16) u) ((n + 4) % 16) (point_along f'' (n % 8) z))
     → C ↔ IsBetweenEnds s z
 
 told_by_cuts : (s : Segment) (z o u : Number) (A B C : Type 0) → IsToldByCuts s z o u A B C (direction_number s) ((direction_number s + 12) % 16) ((direction_number s + 4) % 16) (position_of (lesser_end s)) (position_of (lesser_end s)) (position_of (lesser_end s)) (position_of (greater_end s))

@@ -3,11 +3,8 @@ use Rattle.std.proofs.Common.{◌≡◌, ◌↔◌, ℕ, zero, suc, ◌+◌, ◌
 use Rattle.std.specs.Option.{option_map}
 use Rattle.std.proofs.lemmas.Bool.{cases_lt}
 use Rattle.std.proofs.lemmas.List.{get_or_default}
-use Rattle.surd_number.specs.declared.Surd.{Surd}
 use Rattle.surd_number.specs.declared.Sgn.TheVariants.{Pos}
 use Rattle.surd_number.specs.Number.{Number, IsSame, IsLess, whole, tangent, difference_of, product_of, negative_of, sign_of}
-use Rattle.surd_number.specs.Value.{number_of}
-use Rattle.surd_number.specs.Whole.{whole_surd}
 use Rattle.surd_number.specs.RingTool.{◌⊕◌, ◌⊝◌, ◌⊗◌, ⊖◌, con, v0, v1, v2, v3, v4, v5, v6, v7, v8}
 use Rattle.surd_number.specs.NumberLaws.{number_ring, number_ring_from, number_ring_from_two, difference_of-same, IsSame-refl}
 use Rattle.surd_number.specs.SignLaws.{IsLess-trans, sign_of-product_positive}
@@ -17,7 +14,7 @@ use Rattle.open_region.specs.declared.Region.{Region}
 use Rattle.open_region.specs.declared.edge.Edge.{Edge}
 use Rattle.open_region.specs.Bound.{HoldsAt}
 use Rattle.open_region.specs.EdgeView.{line_offset_of}
-use Rattle.open_region.specs.Region.{edge_at, offset_of, turned_offset, IsLeftOf, IsInRegion}
+use Rattle.open_region.specs.Region.{edge_at, offset_of, turned_offset, IsBeyond, IsLeftOfLine, IsInRegion}
 use Rattle.open_region.specs.Strip.{point_along, origin, strip_bound, IsLevel, HoldsAcross, IsCrossed}
 use Rattle.open_region.proofs.Between.{one_dimension}
 use Rattle.open_region.proofs.Quotients.{less_as, less_by}
@@ -136,14 +133,14 @@ module _ (r : Region) (y : Number) where
   abbrev lower : ℕ → Option Number
   lower k = option_map (limit_of_edge k) (edge_at r (suc k + 8))
 
-  upper_iff : (k : ℕ) (x : Number) → k < 7 → IfSome (offset_of r (suc k)) (λ o. IsLeftOf o (suc k) (record { x = x; y = y })) ↔ IfSome (upper k) (λ u. IsLess x u)
+  upper_iff : (k : ℕ) (x : Number) → k < 7 → IfSome (offset_of r (suc k)) (λ o. IsBeyond o (suc k) (record { x = x; y = y })) ↔ IfSome (upper k) (λ u. IsLess x u)
   unfolding limit_of_edge
   upper_iff k x few =
-      map_iff (λ e. turned_offset (suc k) (line_offset_of e)) (limit_of_edge k) (λ o. IsLeftOf o (suc k) (record { x = x; y = y })) (λ u. IsLess x u) (edge_at r (suc k))
-      (λ e. subst (λ o. IsLeftOf o (suc k) (record { x = x; y = y }) ↔ IsLess x (limit_of_edge k e)) (sym (first_offset (suc k) (line_offset_of e) (omega arith)))
+      map_iff (λ e. turned_offset (suc k) (line_offset_of e)) (limit_of_edge k) (λ o. IsBeyond o (suc k) (record { x = x; y = y })) (λ u. IsLess x u) (edge_at r (suc k))
+      (λ e. subst (λ o. IsBeyond o (suc k) (record { x = x; y = y }) ↔ IsLess x (limit_of_edge k e)) (sym (first_offset (suc k) (line_offset_of e) (omega arith)))
       (right_limit (direction_vector (suc k)) (rise_inverse k) x y (line_offset_of e) (rise_positive k few) (rise_product k few)))
 
-  lower_iff : (k : ℕ) (x : Number) → k < 7 → IfSome (offset_of r (suc k + 8)) (λ o. IsLeftOf o (suc k + 8) (record { x = x; y = y })) ↔ IfSome (lower k) (λ l. IsLess l x)
+  lower_iff : (k : ℕ) (x : Number) → k < 7 → IfSome (offset_of r (suc k + 8)) (λ o. IsBeyond o (suc k + 8) (record { x = x; y = y })) ↔ IfSome (lower k) (λ l. IsLess l x)
   unfolding limit_of_edge
   lower_iff k x few =
       let n = suc k + 8 in
@@ -151,7 +148,7 @@ module _ (r : Region) (y : Number) where
       let same : n - 8 ≡ suc k = omega arith in
       let back : direction_vector (n - 8) ≡ direction_vector (suc k) = ap direction_vector same in
       let turned : direction_vector n ≡ opposite_of (direction_vector (suc k)) = lower_is n (omega arith) (omega arith) ∙ ap opposite_of back in
-      map_iff (λ e. turned_offset n (line_offset_of e)) (limit_of_edge k) (λ o. IsLeftOf o n p) (λ l. IsLess l x) (edge_at r n)
+      map_iff (λ e. turned_offset n (line_offset_of e)) (limit_of_edge k) (λ o. IsBeyond o n p) (λ l. IsLess l x) (edge_at r n)
       (λ e. subst (λ o. IsLess o (cross_of (direction_vector n) p) ↔ IsLess (limit_of_edge k e) x) (sym (second_offset n (line_offset_of e) (omega arith)))
       (subst (λ d. IsLess (negative_of (line_offset_of e)) (cross_of d p) ↔ IsLess (limit_of_edge k e) x) (sym turned)
       (left_limit (direction_vector (suc k)) (rise_inverse k) x y (line_offset_of e) (rise_positive k few) (rise_product k few))))
@@ -177,22 +174,22 @@ module _ (r : Region) (y : Number) where
 
   -- ---- the horizontal lines
 
-  level_first : (x : Number) → IfSome (offset_of r 0) (λ o. IsLeftOf o 0 (point_along origin 4 y)) ↔ IfSome (offset_of r 0) (λ o. IsLeftOf o 0 (record { x = x; y = y }))
+  level_first : (x : Number) → IfSome (offset_of r 0) (λ o. IsBeyond o 0 (point_along origin 4 y)) ↔ IfSome (offset_of r 0) (λ o. IsBeyond o 0 (record { x = x; y = y }))
   level_first x =
-      map_iff (λ e. turned_offset 0 (line_offset_of e)) (λ e. turned_offset 0 (line_offset_of e)) (λ o. IsLeftOf o 0 (point_along origin 4 y)) (λ o. IsLeftOf o 0 (record { x = x; y = y })) (edge_at r 0)
+      map_iff (λ e. turned_offset 0 (line_offset_of e)) (λ e. turned_offset 0 (line_offset_of e)) (λ o. IsBeyond o 0 (point_along origin 4 y)) (λ o. IsBeyond o 0 (record { x = x; y = y })) (edge_at r 0)
       (λ e. less_right_same (turned_offset 0 (line_offset_of e)) (cross_of (direction_vector 0) (point_along origin 4 y)) (cross_of (direction_vector 0) (record { x = x; y = y }))
       (number_ring (x ∷ y ∷ []) (con (whole (pos 1)) ⊗ (con (whole (pos 0)) ⊕ v1 ⊗ con (whole (pos 1))) ⊝ con (whole (pos 0)) ⊗ (con (whole (pos 0)) ⊕ v1 ⊗ con (whole (pos 0)))) (con (whole (pos 1)) ⊗ v1 ⊝ con (whole (pos 0)) ⊗ v0) refl))
 
-  level_second : (x : Number) → IfSome (offset_of r 8) (λ o. IsLeftOf o 8 (point_along origin 4 y)) ↔ IfSome (offset_of r 8) (λ o. IsLeftOf o 8 (record { x = x; y = y }))
+  level_second : (x : Number) → IfSome (offset_of r 8) (λ o. IsBeyond o 8 (point_along origin 4 y)) ↔ IfSome (offset_of r 8) (λ o. IsBeyond o 8 (record { x = x; y = y }))
   level_second x =
-      map_iff (λ e. turned_offset 8 (line_offset_of e)) (λ e. turned_offset 8 (line_offset_of e)) (λ o. IsLeftOf o 8 (point_along origin 4 y)) (λ o. IsLeftOf o 8 (record { x = x; y = y })) (edge_at r 8)
+      map_iff (λ e. turned_offset 8 (line_offset_of e)) (λ e. turned_offset 8 (line_offset_of e)) (λ o. IsBeyond o 8 (point_along origin 4 y)) (λ o. IsBeyond o 8 (record { x = x; y = y })) (edge_at r 8)
       (λ e. less_right_same (turned_offset 8 (line_offset_of e)) (cross_of (direction_vector 8) (point_along origin 4 y)) (cross_of (direction_vector 8) (record { x = x; y = y }))
       (number_ring (x ∷ y ∷ []) ((⊖ con (whole (pos 1))) ⊗ (con (whole (pos 0)) ⊕ v1 ⊗ con (whole (pos 1))) ⊝ (⊖ con (whole (pos 0))) ⊗ (con (whole (pos 0)) ⊕ v1 ⊗ con (whole (pos 0)))) ((⊖ con (whole (pos 1))) ⊗ v1 ⊝ (⊖ con (whole (pos 0))) ⊗ v0) refl))
 
   -- ---- elimination
 
   abbrev IsLeftAt : Number → ℕ → Type 0
-  IsLeftAt x n = IfSome (offset_of r n) (λ o. IsLeftOf o n (record { x = x; y = y }))
+  IsLeftAt x n = IfSome (offset_of r n) (λ o. IsBeyond o n (record { x = x; y = y }))
 
   -- what the bounds of the line of direction n + 1 say
   crossed_at : (n k : ℕ) (o : Option Edge) → k < 7 → IfSome o (λ right. (j : ℕ) → j < 8 → 1 ≤ j → HoldsAcross r (suc n) (line_offset_of right) j y) → IfSome o (λ right. HoldsAcross r (suc n) (line_offset_of right) (suc k) y)
@@ -253,8 +250,8 @@ heights_are r y = (point_from r y, λ w. height_from r y w.0 w.1)
 -- ---- what the code computes
 
 -- the horizontal lines, from the origin as a point
-pub level_is : (r : Region) (s t : Surd) (y : Number) (A B C : Type 0) → s ≡ whole_surd (pos 0) → t ≡ whole_surd (pos 0) → A → B ↔ (A × IfSome (offset_of r 0) (λ o. IsLeftOf o 0 (point_along (record { x = number_of s; y = number_of t }) 4 y))) → C ↔ (B × IfSome (offset_of r 8) (λ o. IsLeftOf o 8 (point_along (record { x = number_of s; y = number_of t }) 4 y))) → C ↔ IsLevel r y
+pub level_is : (r : Region) (s t y : Number) (A B C : Type 0) → s ≡ whole (pos 0) → t ≡ whole (pos 0) → A → B ↔ (A × IsLeftOfLine (point_along (record { x = s; y = t }) 4 y) r 0) → C ↔ (B × IsLeftOfLine (point_along (record { x = s; y = t }) 4 y) r 8) → C ↔ IsLevel r y
 level_is r s t y A B C at at' a f g =
-    let P : Surd → Surd → Type 0 = λ u v. IfSome (offset_of r 0) (λ o. IsLeftOf o 0 (point_along (record { x = number_of u; y = number_of v }) 4 y)) × IfSome (offset_of r 8) (λ o. IsLeftOf o 8 (point_along (record { x = number_of u; y = number_of v }) 4 y)) in
+    let P : Number → Number → Type 0 = λ u v. IsLeftOfLine (point_along (record { x = u; y = v }) 4 y) r 0 × IsLeftOfLine (point_along (record { x = u; y = v }) 4 y) r 8 in
     let here : C ↔ P s t = ((λ c. ((f.0 (g.0 c).0).1, (g.0 c).1)), λ h. g.1 (f.1 (a, h.0), h.1)) in
-    subst (λ u. C ↔ P u (whole_surd (pos 0))) at (subst (λ v. C ↔ P s v) at' here)
+    subst (λ u. C ↔ P u (whole (pos 0))) at (subst (λ v. C ↔ P s v) at' here)

@@ -5,13 +5,13 @@ use Rattle.std.proofs.lemmas.Bool.{false≢true}
 use lib.IntN.{ℤ_set}
 use Rattle.surd_number.specs.declared.Sgn.{Sgn}
 use Rattle.surd_number.specs.declared.Sgn.TheVariants.{Neg, Zero, Pos}
-use Rattle.surd_number.specs.Number.{Number, IsSame, IsCanonical, IsWithin, IsLess, whole, difference_of, product_of, sign_of, tangent, unit_of, unit_inverse_of}
+use Rattle.surd_number.specs.Number.{Number, IsSame, IsCanonical, IsWithin, IsLess, whole, difference_of, product_of, sign_of, tangent, unit_of, unit_inverse_of, FitsOver}
 use Rattle.surd_number.specs.Stored.{IsWide}
 use Rattle.surd_number.specs.Value.{wide_number_of}
 use Rattle.surd_number.specs.RingTool.{◌⊗◌, con, v0, v1}
 use Rattle.surd_number.specs.NumberLaws.{number_ring_from, product_of-same, IsSame-refl, IsSame-trans}
 use Rattle.surd_number.specs.SignLaws.{sign_of-same}
-use Rattle.surd_number.specs.Fits.{FitsOver, fits_prop, fits_same, fits_more, fits_finer, fits_difference, fits_times, fits_unit, fits_tangent, within_from_fits, wide_from_fits}
+use Rattle.surd_number.specs.FitsLaws.{fits_prop, fits_same, fits_more, fits_finer, fits_difference, fits_times, fits_unit, fits_tangent, within_from_fits, wide_from_fits}
 use Rattle.plane_geometry.specs.Direction.{is_negative}
 use Rattle.open_region.specs.declared.edge.Edge.{Edge}
 use Rattle.open_region.specs.declared.interval.Limit.{Limit}

@@ -1,7 +1,6 @@
 -- Which numbers edges and limits keep.
 use Rattle.std.specs.Prelude.{◌*◌, ◌^◌}
-use Rattle.surd_number.specs.Number.{Number, IsSame, product_of, tangent}
-use Rattle.surd_number.specs.Fits.{FitsOver}
+use Rattle.surd_number.specs.Number.{Number, IsSame, product_of, tangent, FitsOver}
 
 -- the offset of a line, and its product with sqrt 2 - 1
 pub record IsEdge (offset scaled : Number) : Type 0 where

@@ -1,10 +1,10 @@
 //! Lines that bound a region, each kept with what a test of pairs multiplies.
 
 ghost use Rattle.std.specs.Prelude.{◌≡◌, ◌↔◌, ◌*◌, ◌%◌, ◌^◌, ◌<◌, ◌≤◌, IsTrue};
-ghost use Rattle.surd_number.specs.Number.{IsSame, IsLess, product_of};
+ghost use Rattle.surd_number.specs.Number.{IsLess, product_of, FitsOver};
+ghost use Rattle.surd_number.specs.Exact.{IsWideOf};
 ghost use Rattle.surd_number.specs.Value.{wide_number_of};
-ghost use Rattle.surd_number.specs.Fits.{FitsOver};
-ghost use Rattle.plane_geometry.specs.Position.{position_of, cross_of};
+ghost use Rattle.plane_geometry.specs.Position.{position_of};
 ghost use Rattle.plane_geometry.specs.Direction.{direction_vector};
 ghost use Rattle.plane_geometry.specs.DirView.{dir_number};
 ghost use Rattle.open_region.specs.Stored.{IsEdge};
@@ -12,7 +12,8 @@ ghost use Rattle.open_region.specs.Stored.{IsEdge};
 use plane_geometry::{Dir, Line, Point};
 use surd_number::{Sgn, Wide};
 
-/// The line of an edge: the cross product of its direction, 0 to 7, with its points, and that times `sqrt 2 - 1`.
+/// The line of an edge: the cross product of its direction, 0 to 7, with its points, and that times
+/// `sqrt 2 - 1`, which a test of pairs would multiply else.
 #[derive(Clone, Copy, Debug)]
 pub(crate) struct Edge {
     offset: Wide,
@@ -46,11 +47,11 @@ pub(crate) fn numbered(n: u8) -> Dir
 
 impl Edge {
     ghost use Rattle.open_region.specs.EdgeView.{line_offset_of};
-    ghost use Rattle.open_region.specs.Region.{turned_offset, IsLeftOf};
+    ghost use Rattle.open_region.specs.Region.{IsLeftOfEdge, IsTighter, IsOffsetFrom};
 
     /// The edge of the line through `p` in direction `d`.
     pub(crate) fn through(d: Dir, p: &Point) -> Edge
-        ensures { IsSame (turned_offset (dir_number d) (line_offset_of result)) (cross_of (direction_vector (dir_number d)) (position_of p.now)) }
+        ensures { IsOffsetFrom (dir_number d) result (position_of p.now) }
     {
         let offset = Line::through(p, d).offset();
         Edge {
@@ -71,7 +72,7 @@ impl Edge {
     pub(crate) fn risen(&self, k: u8) -> &Wide
         requires rises { 1 ≤ k }
         requires few { k < 8 }
-        ensures value { IsSame (wide_number_of result.now) (product_of (direction_vector k).y (line_offset_of self.now)) }
+        ensures value { IsWideOf result.now (product_of (direction_vector k).y (line_offset_of self.now)) }
         ensures fits { FitsOver (18 * 2 ^ 52) 16 (wide_number_of result.now) }
     {
         // Only the directions 1 and 7 rise by less than they would at 45 degrees.
@@ -84,9 +85,9 @@ impl Edge {
         }
     }
 
-    /// Whether less is strictly left of this line than of the other, both in direction `n`.
+    /// Whether less is strictly left of this line than of the other, both taken in direction `n`.
     pub(crate) fn is_tighter(&self, n: u8, other: &Edge) -> bool
-        ensures { IsTrue result ↔ IsLess (turned_offset n (line_offset_of other.now)) (turned_offset n (line_offset_of self.now)) }
+        ensures { IsTrue result ↔ IsTighter n self.now other.now }
     {
         if n < 8 {
             is_less(&other.offset, &self.offset)
@@ -98,7 +99,7 @@ impl Edge {
     /// Whether the point is strictly left of the line, taken in direction `n`.
     pub(crate) fn admits(&self, n: u8, p: &Point) -> bool
         requires { n < 16 }
-        ensures { IsTrue result ↔ IsLeftOf (turned_offset n (line_offset_of self.now)) n (position_of p.now) }
+        ensures { IsTrue result ↔ IsLeftOfEdge (position_of p.now) n self.now }
     {
         Edge::through(numbered(n), p).is_tighter(n, self)
     }

@@ -1,13 +1,12 @@
 //! The numbers strictly between two limits, and how bounds narrow them.
 
 ghost use Rattle.std.specs.Prelude.{◌≡◌, ◌↔◌, ◌+◌, ◌*◌, ◌%◌, ◌^◌, ◌<◌, ◌≤◌, IsTrue};
-ghost use Rattle.surd_number.specs.Number.{Number, IsSame, IsLess, difference_of, product_of, unit_inverse_of};
+ghost use Rattle.surd_number.specs.Number.{Number, IsSame, IsLess, difference_of, product_of, unit_inverse_of, FitsOver};
 ghost use Rattle.surd_number.specs.Value.{wide_number_of};
-ghost use Rattle.surd_number.specs.Fits.{FitsOver};
 ghost use Rattle.plane_geometry.specs.Position.{position_of, cross_of};
 ghost use Rattle.plane_geometry.specs.Direction.{direction_vector};
 ghost use Rattle.open_region.specs.Stored.{IsLimit};
-ghost use Rattle.open_region.specs.Bound.{HoldsAt};
+ghost use Rattle.open_region.specs.Bound.{HoldsAt, turn_bound};
 
 use crate::edge::{Edge, is_less, numbered};
 use plane_geometry::{Point, Segment, cross_unit};
@@ -20,7 +19,7 @@ pub(crate) struct Limit {
     ghost fits: { ∥ IsLimit (wide_number_of value) ∥₁ },
 }
 
-/// The numbers above the lower limit and below the upper one, where they are there; none at all where it is closed.
+/// The numbers above the lower limit and below the upper one, where they are there; none where it is closed.
 #[derive(Clone, Copy)]
 pub(crate) struct Interval {
     lower: Option<Limit>,
@@ -37,7 +36,8 @@ impl Limit {
         requires n_fits { FitsOver (18 * 2 ^ 52) 16 (wide_number_of n.now) }
         requires few { i ≤ 1 }
         requires few_roots { j ≤ 3 }
-        ensures { IsSame (limit_of result) (product_of (difference_of (wide_number_of m.now) (wide_number_of n.now)) (unit_inverse_of i j)) }
+        ensures { IsSame (limit_of result)
+            (product_of (difference_of (wide_number_of m.now) (wide_number_of n.now)) (unit_inverse_of i j)) }
     {
         Limit {
             value: m.minus(n).over_unit(i, j),
@@ -53,26 +53,26 @@ impl Limit {
 
     /// The greater of two limits.
     fn greater(self, other: Limit) -> Limit
-        ensures { (y : Number) → IsLess (limit_of result) y ↔ (IsLess (limit_of self) y × IsLess (limit_of other) y) }
+        ensures { (y : Number) → IsLess (limit_of result) y ↔
+            (IsLess (limit_of self) y × IsLess (limit_of other) y) }
     {
         if self.is_below(&other) { other } else { self }
     }
 
     /// The lesser of two limits.
     fn lesser(self, other: Limit) -> Limit
-        ensures { (y : Number) → IsLess y (limit_of result) ↔ (IsLess y (limit_of self) × IsLess y (limit_of other)) }
+        ensures { (y : Number) → IsLess y (limit_of result) ↔
+            (IsLess y (limit_of self) × IsLess y (limit_of other)) }
     {
         if self.is_below(&other) { self } else { other }
     }
 }
 
 impl Interval {
-    ghost use Rattle.plane_geometry.specs.Stretch.{is_between};
-    ghost use Rattle.plane_geometry.specs.SegmentView.{stretch_of, direction_number, lesser_end};
-    ghost use Rattle.open_region.specs.EdgeView.{line_offset_of, limit_of};
+    ghost use Rattle.open_region.specs.EdgeView.{limit_of};
     ghost use Rattle.open_region.specs.Interval.{IsInInterval};
-    ghost use Rattle.open_region.specs.Region.{turned_offset, IsLeftOf};
-    ghost use Rattle.open_region.specs.Strip.{point_along};
+    ghost use Rattle.open_region.specs.Region.{IsLeftOfEdge};
+    ghost use Rattle.open_region.specs.Strip.{point_along, IsBetweenEnds};
 
     /// All numbers.
     pub(crate) fn whole() -> Interval
@@ -142,13 +142,15 @@ impl Interval {
         }
     }
 
-    /// Its part where `first - second` is less than `y` times the cross product of direction `m` with direction `n`.
+    /// Its part where `first - second` is less than `y` times the cross product of directions `m` and `n`.
     pub(crate) fn narrowed(self, m: u8, n: u8, first: &Wide, second: &Wide) -> Interval
         requires few { m < 8 }
         requires few_others { n < 8 }
         requires first_fits { FitsOver (18 * 2 ^ 52) 16 (wide_number_of first.now) }
         requires second_fits { FitsOver (18 * 2 ^ 52) 16 (wide_number_of second.now) }
-        ensures { (y : Number) → IsInInterval y result ↔ (IsInInterval y self × HoldsAt y (record { slope = cross_of (direction_vector m) (direction_vector n); offset = difference_of (wide_number_of first.now) (wide_number_of second.now) })) }
+        ensures { (y : Number) → IsInInterval y result ↔
+            (IsInInterval y self
+            × HoldsAt y (turn_bound m n (wide_number_of first.now) (wide_number_of second.now))) }
     {
         if m < n {
             let (i, j) = cross_unit(m, n);
@@ -161,12 +163,13 @@ impl Interval {
         }
     }
 
-    /// Those `z` for which the point `q + z * e` is strictly left of the line of the edge, taken in direction `n`, for the
-    /// vector e of direction `along`.
+    /// Those `z` for which the point `q + z * e` is strictly left of the line of the edge, taken in direction
+    /// `n`, for direction `along` as e.
     pub(crate) fn cut(self, n: u8, edge: &Edge, along: u8, q: &Point) -> Interval
         requires few { n < 16 }
         requires few_along { along < 8 }
-        ensures { (z : Number) → IsInInterval z result ↔ (IsInInterval z self × IsLeftOf (turned_offset n (line_offset_of edge.now)) n (point_along (position_of q.now) along z)) }
+        ensures { (z : Number) → IsInInterval z result ↔
+            (IsInInterval z self × IsLeftOfEdge (point_along (position_of q.now) along z) n edge.now) }
     {
         let through = Edge::through(numbered(n), q);
         if n < 8 {
@@ -176,10 +179,10 @@ impl Interval {
         }
     }
 
-    /// Those `z` for which the point `from + z * e` is strictly between the ends of the segment, for the vector e of its
-    /// direction modulo 8.
+    /// Those `z` for which the point `from + z * e` is strictly between the ends of the segment, for its direction
+    /// modulo 8 as e.
     pub(crate) fn between_ends(s: &Segment) -> Interval
-        ensures { (z : Number) → IsInInterval z result ↔ IsTrue (is_between (point_along (position_of (lesser_end s.now)) (direction_number s.now % 8) z) (stretch_of s.now)) }
+        ensures { (z : Number) → IsInInterval z result ↔ IsBetweenEnds s.now z }
     {
         let number = s.dir().number();
         let along = number % 8;

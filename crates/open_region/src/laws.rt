@@ -7,5 +7,6 @@ ghost use Rattle.open_region.specs.Region.{HasPoint, HasPointLeftOf};
 
 /// Where a region has a point, one of its two cuts by any line has one.
 pub fn a_cut_keeps_a_point()
-    ensures { (r : Region) (q : Position) (n : ℕ) → n < 8 → HasPoint r → HasPointLeftOf r q n ⊎ HasPointLeftOf r q (n + 8) }
+    ensures { (r : Region) (q : Position) (n : ℕ) → n < 8 → HasPoint r →
+        HasPointLeftOf r q n ⊎ HasPointLeftOf r q (n + 8) }
 {}

@@ -5,11 +5,10 @@ mod edge;
 mod interval;
 pub mod laws;
 
-ghost use Rattle.std.specs.Prelude.{◌≡◌, ◌↔◌, ℕ, ◌+◌, ◌%◌, ◌<◌, ◌≤◌, IfSome, MatchOption, IsTrue, length};
-ghost use Rattle.surd_number.specs.declared.Sgn.TheVariants.{Pos};
+ghost use Rattle.std.specs.Prelude.{◌≡◌, ◌↔◌, ◌+◌, ◌%◌, ◌<◌, ◌≤◌, MatchOption, IsTrue};
 ghost use Rattle.plane_geometry.specs.Position.{Position, position_of};
-ghost use Rattle.plane_geometry.specs.Direction.{side_of};
 ghost use Rattle.plane_geometry.specs.DirView.{dir_number};
+ghost use Rattle.open_region.specs.Polygon.{HaveDirections};
 
 use edge::Edge;
 use interval::Interval;
@@ -34,15 +33,25 @@ fn next_place(i: usize, count: usize) -> usize
     if i + 1 < count { i + 1 } else { 0 }
 }
 
+/// Whether each side of a polygon has one of the 16 directions.
+pub fn have_directions(corners: &[Point]) -> bool
+    ensures { IsTrue result ↔ HaveDirections corners.now }
+{
+    for i in 0..corners.len() {
+        if direction(&corners[i], &corners[next_place(i, corners.len())]).is_none() {
+            return false;
+        }
+    }
+    true
+}
+
 impl Region {
-    ghost use Rattle.surd_number.specs.Number.{Number, IsLess};
-    ghost use Rattle.plane_geometry.specs.SegmentView.{stretch_of};
-    ghost use Rattle.plane_geometry.specs.Stretch.{is_between};
+    ghost use Rattle.surd_number.specs.Number.{Number};
     ghost use Rattle.open_region.specs.EdgeView.{line_offset_of};
     ghost use Rattle.open_region.specs.Interval.{IsInInterval};
-    ghost use Rattle.open_region.specs.Region.{edge_at, offset_of, turned_offset, IsLeftOf, IsInRegion, HasPoint};
-    ghost use Rattle.open_region.specs.Strip.{point_along, IsLevel, IsCrossed, HoldsAcross};
-    ghost use Rattle.open_region.specs.Polygon.{HaveDirections, HasDirection, IsLeftOfSide, IsInPolygon};
+    ghost use Rattle.open_region.specs.Region.{edge_at, IsLeftOf, IsLeftOfEdge, IsLeftOfLine, IsTighter, IsInRegion, HasPoint, HasPointBetween, IsHeight};
+    ghost use Rattle.open_region.specs.Strip.{point_along, IsLevel, IsCrossed, HoldsAcross, HoldsAcrossAll};
+    ghost use Rattle.open_region.specs.Polygon.{HasDirection, IsLeftOfSide, IsInPolygon};
 
     /// The whole plane.
     pub fn whole() -> Region
@@ -65,7 +74,8 @@ impl Region {
 
     /// The part strictly left of the line through `p` in direction `d`.
     pub fn cut(&self, p: &Point, d: Dir) -> Region
-        ensures { (q : Position) → IsInRegion q result ↔ (IsInRegion q self.now × (side_of (position_of p.now) (dir_number d) q ≡ Pos)) }
+        ensures { (q : Position) → IsInRegion q result ↔
+            (IsInRegion q self.now × IsLeftOf q (position_of p.now) (dir_number d)) }
     {
         let mut region = *self;
         region.narrow_to_line(p, d);
@@ -104,7 +114,7 @@ impl Region {
 
     /// Whether some point strictly between the ends of the segment is in the region.
     pub fn segment_enters(&self, s: &Segment) -> bool
-        ensures { IsTrue result ↔ ((p : Position) × IsTrue (is_between p (stretch_of s.now)) × IsInRegion p self.now) }
+        ensures { IsTrue result ↔ HasPointBetween self.now s.now }
     {
         self.along(Interval::between_ends(s), s.from(), s.dir().number() % 8)
             .has_number()
@@ -113,7 +123,8 @@ impl Region {
     /// Keeps what is strictly left of the line in direction `n` of the edge.
     fn narrow(&mut self, n: u8, edge: &Edge)
         requires { n < 16 }
-        ensures { (q : Position) → IsInRegion q self.new ↔ (IsInRegion q self.old × IsLeftOf (turned_offset n (line_offset_of edge.now)) n q) }
+        ensures { (q : Position) → IsInRegion q self.new ↔
+            (IsInRegion q self.old × IsLeftOfEdge q n edge.now) }
     {
         if self.is_tightened(n, edge) {
             self.edges[n as usize] = Some(*edge);
@@ -123,7 +134,8 @@ impl Region {
     /// Whether the region has no line in direction `n`, or the edge leaves less.
     fn is_tightened(&self, n: u8, edge: &Edge) -> bool
         requires { n < 16 }
-        ensures { MatchOption (edge_at self.now n) (IsTrue result) (λ old. IsTrue result ↔ IsLess (turned_offset n (line_offset_of old)) (turned_offset n (line_offset_of edge.now))) }
+        ensures { MatchOption (edge_at self.now n) (IsTrue result)
+            (λ old. IsTrue result ↔ IsTighter n edge.now old) }
     {
         match &self.edges[n as usize] {
             None => true,
@@ -133,7 +145,8 @@ impl Region {
 
     /// Keeps what is strictly left of the line through `p` in direction `d`.
     fn narrow_to_line(&mut self, p: &Point, d: Dir)
-        ensures { (q : Position) → IsInRegion q self.new ↔ (IsInRegion q self.old × (side_of (position_of p.now) (dir_number d) q ≡ Pos)) }
+        ensures { (q : Position) → IsInRegion q self.new ↔
+            (IsInRegion q self.old × IsLeftOf q (position_of p.now) (dir_number d)) }
     {
         self.narrow(d.number(), &Edge::through(d, p));
     }
@@ -141,7 +154,8 @@ impl Region {
     /// Keeps what is strictly left of a side of a polygon.
     fn narrow_to_side(&mut self, start: &Point, end: &Point)
         requires { HasDirection start.now end.now }
-        ensures { (q : Position) → IsInRegion q self.new ↔ (IsInRegion q self.old × IsLeftOfSide q start.now end.now) }
+        ensures { (q : Position) → IsInRegion q self.new ↔
+            (IsInRegion q self.old × IsLeftOfSide q start.now end.now) }
     {
         match direction(start, end) {
             Some(d) => self.narrow_to_line(start, d),
@@ -152,7 +166,8 @@ impl Region {
     /// Keeps what is strictly left of the line in direction `n` of the other region, if it has one.
     fn narrow_by(&mut self, n: u8, other: &Region)
         requires { n < 16 }
-        ensures { (q : Position) → IsInRegion q self.new ↔ (IsInRegion q self.old × IfSome (offset_of other.now n) (λ o. IsLeftOf o n q)) }
+        ensures { (q : Position) → IsInRegion q self.new ↔
+            (IsInRegion q self.old × IsLeftOfLine q other.now n) }
     {
         match &other.edges[n as usize] {
             None => {}
@@ -163,7 +178,7 @@ impl Region {
     /// Whether the point is strictly left of the line in direction `n`, if there is one.
     fn admits(&self, n: u8, p: &Point) -> bool
         requires { n < 16 }
-        ensures { IsTrue result ↔ IfSome (offset_of self.now n) (λ o. IsLeftOf o n (position_of p.now)) }
+        ensures { IsTrue result ↔ IsLeftOfLine (position_of p.now) self.now n }
     {
         match &self.edges[n as usize] {
             None => true,
@@ -171,10 +186,11 @@ impl Region {
         }
     }
 
-    /// Those `z` of the interval for which the point `q + z * e` is in the region, for the vector e of direction `along`.
+    /// Those `z` of the interval for which the point `q + z * e` is in the region, for direction `along` as e.
     fn along(&self, interval: Interval, q: &Point, along: u8) -> Interval
         requires { along < 8 }
-        ensures { (z : Number) → IsInInterval z result ↔ (IsInInterval z interval × IsInRegion (point_along (position_of q.now) along z) self.now) }
+        ensures { (z : Number) → IsInInterval z result ↔
+            (IsInInterval z interval × IsInRegion (point_along (position_of q.now) along z) self.now) }
     {
         let mut interval = interval;
         for n in 0..16 {
@@ -187,7 +203,8 @@ impl Region {
     fn along_edge(&self, interval: Interval, n: u8, q: &Point, along: u8) -> Interval
         requires few { n < 16 }
         requires few_along { along < 8 }
-        ensures { (z : Number) → IsInInterval z result ↔ (IsInInterval z interval × IfSome (offset_of self.now n) (λ o. IsLeftOf o n (point_along (position_of q.now) along z))) }
+        ensures { (z : Number) → IsInInterval z result ↔
+            (IsInInterval z interval × IsLeftOfLine (point_along (position_of q.now) along z) self.now n) }
     {
         match &self.edges[n as usize] {
             None => interval,
@@ -197,7 +214,7 @@ impl Region {
 
     /// The heights of the points of the region.
     fn heights(&self) -> Interval
-        ensures { (y : Number) → IsInInterval y result ↔ ((x : Number) × IsInRegion (record { x = x; y = y }) self.now) }
+        ensures { (y : Number) → IsInInterval y result ↔ IsHeight self.now y }
     {
         let mut heights = self.level();
         for n in 1..8 {
@@ -234,7 +251,8 @@ impl Region {
     fn crossed_by(&self, heights: Interval, n: u8, right: &Edge) -> Interval
         requires rises { 1 ≤ n }
         requires few { n < 8 }
-        ensures { (y : Number) → IsInInterval y result ↔ (IsInInterval y heights × ((k : ℕ) → k < 8 → 1 ≤ k → HoldsAcross self.now n (line_offset_of right.now) k y)) }
+        ensures { (y : Number) → IsInInterval y result ↔
+            (IsInInterval y heights × HoldsAcrossAll self.now n (line_offset_of right.now) y) }
     {
         let mut heights = heights;
         for k in 1..8 {
@@ -249,7 +267,8 @@ impl Region {
         requires few { n < 8 }
         requires falls { 1 ≤ k }
         requires few_falls { k < 8 }
-        ensures { (y : Number) → IsInInterval y result ↔ (IsInInterval y heights × HoldsAcross self.now n (line_offset_of right.now) k y) }
+        ensures { (y : Number) → IsInInterval y result ↔
+            (IsInInterval y heights × HoldsAcross self.now n (line_offset_of right.now) k y) }
     {
         match &self.edges[(k + 8) as usize] {
             None => heights,
@@ -257,3 +276,6 @@ impl Region {
         }
     }
 }
+
+#[cfg(test)]
+mod tests;

@@ -2,7 +2,7 @@ use Rattle.std.proofs.Common.{arith}
 use Rattle.plane_geometry.specs.declared.Point.{Point}
 use Rattle.open_region.specs.Polygon.{IsSideAt, IsLeftOfSide}
 use Rattle.open_region.proofs.Steps.{iff_trans, and_iff, next_alone}
-use Rattle.open_region.proofs.Narrowing.{left_of_sides_at, side_read, sides_within}
+use Rattle.open_region.proofs.Narrowing.{sides_at, side_read, sides_within}
 use Rattle.open_region.proofs.Region.of_polygon.Goals as goal
 
 pub narrow_to_side-requires : goal.narrow_to_side-requires
@@ -20,7 +20,7 @@ loop-i-preserved c =
     let a = c.index-corners-i.result in
     let b = c.index-corners-next_place.result in
     let at : IsSideAt corners i a b = side_read corners i c.next_place.result a b c.loop-i-test.true c.next_place.ensures.value c.next_place.ensures.bound c.index-corners-i.is c.index-corners-next_place.is in
-    λ q. next_alone (λ k. (x y : Point) → IsSideAt corners k x y → IsLeftOfSide q x y) i (c.loop-i.invariant q) (and_iff (c.narrow_to_side.ensures q) (left_of_sides_at corners q i a b at))
+    λ q. next_alone (λ k. (x y : Point) → IsSideAt corners k x y → IsLeftOfSide q x y) i (c.loop-i.invariant q) (and_iff (c.narrow_to_side.ensures q) (sides_at (IsLeftOfSide q) corners i a b at))
 
 pub returns : goal.returns
 returns c = λ q. iff_trans (c.loop-i.invariant q) (sides_within c.args.corners.now q c.loop-i.i (omega arith))
