@@ -7,9 +7,9 @@ use Rattle.std.proofs.lemmas.Nat.{mul-le, pow_pos}
 use Rattle.std.proofs.lemmas.Int.{ints, unsigned_abs-mul}
 use Rattle.surd_number.specs.declared.Surd.{Surd}
 use Rattle.surd_number.specs.declared.OutOfRange.{OutOfRange}
-use Rattle.surd_number.specs.Exact.{IsExactly}
+use Rattle.surd_number.specs.Exact.{IsExactly, surd_of}
 use Rattle.surd_number.specs.Number.{Number, power}
-use Rattle.surd_number.specs.Answer.{surd_of, surd_of-none, surd_of-exactly}
+use Rattle.surd_number.specs.ExactLaws.{surd_of-none, surd_of-exactly}
 use Rattle.cp_text.specs.NumberReading.{signed, bounded, parts_read, surd_answer}
 
 abbrev over_parts : ℤ → ℤ → Number

@@ -9,7 +9,8 @@ use Rattle.std.proofs.lemmas.List.Folds.{list_all-append}
 use Rattle.std.proofs.lemmas.Nat.{pow_pos, mul-pow, div-add-mod'}
 use Rattle.std.proofs.Math.Nat.{pow-succ', one-le-pow, eq_of_mul-eq-mul_right, le_of_mul-le-mul_right}
 use Rattle.surd_number.specs.declared.Surd.{Surd}
-use Rattle.surd_number.specs.Answer.{surd_of, surd_of-is, surd_of-none, surd_of-value}
+use Rattle.surd_number.specs.Exact.{surd_of}
+use Rattle.surd_number.specs.ExactLaws.{surd_of-is, surd_of-none, surd_of-value}
 use Rattle.cp_text.specs.declared.number_reading.NumberFault.TheVariants.{OutOfRange}
 use Rattle.cp_text.specs.Digits.{is_digit, digits_value, without_zeros, kept_digit}
 use Rattle.cp_text.specs.NumberReading.{exact_parts, fraction_parts, surd_answer}

@@ -8,7 +8,8 @@ use Rattle.surd_number.specs.declared.Surd.{Surd}
 use Rattle.surd_number.specs.Number.{Number, power}
 use Rattle.surd_number.specs.IntRing.{int_mul_assoc}
 use Rattle.surd_number.specs.Value.{number_of}
-use Rattle.surd_number.specs.Answer.{surd_of, surd_of-is}
+use Rattle.surd_number.specs.Exact.{surd_of}
+use Rattle.surd_number.specs.ExactLaws.{surd_of-is}
 use Rattle.cp_text.specs.Digits.{digits_value}
 use Rattle.cp_text.specs.NumberText.{fraction_digits, magnitude_text, joining_text, part_text, parts_text, number_text}
 use Rattle.cp_text.specs.NumberGrammar.{IsDecimal, middle_sign, decimal_text, front_text, root_mark, word_text}

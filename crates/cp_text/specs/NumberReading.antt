@@ -1,7 +1,7 @@
 -- What the reading of a number word answers.
 use Rattle.std.specs.Prelude.{ℕ, ◌+◌, ◌-◌, ◌*◌, ◌/◌, ◌%◌, ◌^◌, min, ℤ, pos, negsuc, neg_ℤ, Bool, true, false, ◌&&◌, ◌==◌, nat_le, List, length, Option, Some, None, option_map, Result, Ok, Err, if◌then◌else◌}
 use Rattle.surd_number.specs.declared.Surd.{Surd}
-use Rattle.surd_number.specs.Answer.{surd_of}
+use Rattle.surd_number.specs.Exact.{surd_of}
 use Rattle.cp_text.specs.declared.number_reading.NumberFault.{NumberFault}
 use Rattle.cp_text.specs.declared.number_reading.NumberFault.TheVariants.{Bad, NotExact, OutOfRange}
 use Rattle.cp_text.specs.Digits.{digits_value, without_zeros}

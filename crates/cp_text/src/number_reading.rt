@@ -4,7 +4,7 @@ ghost use Rattle.std.specs.Prelude.{◌≡◌, ◌+◌, ◌*◌, ◌-◌, ◌^�
 ghost use Rattle.cp_text.specs.Digits.{is_digit, is_digits, digits_value, leading_digits, behind_digits, without_zeros};
 ghost use Rattle.cp_text.specs.NumberWord.{with_fraction, behind_whole, with_whole, decimal_at, Rational, Root, Both, is_root_mark, second_part, behind_first, has_minus, behind_minus, is_power, is_power_mark};
 ghost use Rattle.cp_text.specs.NumberReading.{exact_parts, fraction_parts, signed, bounded, decimal_parts, surd_answer, parts_read, word_value, word_read, number_read};
-ghost use Rattle.surd_number.specs.Answer.{surd_of};
+ghost use Rattle.surd_number.specs.Exact.{surd_of};
 
 use surd_number::{OutOfRange, Surd};
 use thiserror::Error;

@@ -4,3 +4,4 @@ pub mod LeastCorners
 pub mod LastSides
 pub mod Rotations
 pub mod NewSheets
+pub mod Bends

@@ -11,7 +11,7 @@ use Rattle.std.proofs.lemmas.List.Sums.{sum_by-append, sum_by-cons, position_or_
 use Rattle.plane_geometry.specs.declared.Point.{Point}
 use Rattle.plane_geometry.specs.Position.{position_of, compare_positions}
 use Rattle.crease_model.specs.Sheet.{Side, sides_of, side_direction, side_number, turn_of, turns_from, turns_of, is_left_turn, directions_of, is_least, is_least_first, is_sheet}
-use Rattle.crease_model.specs.NewSheet.{bends_from, last_of, side_directions, is_bad_turn, turn_between, bend_turn, first_bad, turn_fault, sheet_fault, least_place, from_least, unless_fault, sheet_of}
+use Rattle.crease_model.specs.NewSheet.{bends_from, last_direction, side_directions, is_bad_turn, turn_between, bend_turn, first_bad, turn_fault, sheet_fault, least_place, from_least, unless_fault, sheet_of}
 use Rattle.crease_model.proofs.LeastCorners.{least_is_first}
 use Rattle.crease_model.proofs.Rotations.{IsTurnable, turned_sides, turned_directions}
 
@@ -55,19 +55,19 @@ left_turn t e = go (is_left_turn t) e
     go true f = refl
     go false f = absurd (true≢false f)
 
-all_left : (n first b : ℕ) (ds : List (Option ℕ)) → first_bad n (bends_from (Some b) ds) ≡ None → is_left_turn (turn_of (number_or_0 (last_of (Some b) ds)) first) ≡ true → list_all is_left_turn (turns_from first (b ∷ map number_or_0 ds)) ≡ true
+all_left : (n first b : ℕ) (ds : List (Option ℕ)) → first_bad n (bends_from (Some b) ds) ≡ None → is_left_turn (turn_of (number_or_0 (last_direction (Some b) ds)) first) ≡ true → list_all is_left_turn (turns_from first (b ∷ map number_or_0 ds)) ≡ true
 all_left n first b [] e last = and_from _ true last refl
 all_left n first b (None ∷ ds) e last = cc
 all_left n first b (Some d ∷ ds) e last =
     let k = not_bad (is_bad_turn (Some b) (Some d)) n _ e in
     and_from _ _ (left_turn (turn_of b d) k.0) (all_left (n + 1) first d ds k.1 last)
 
-all_turns : (first b : ℕ) (ds : List (Option ℕ)) → list_all is_some ds ≡ true → sum (turns_from first (b ∷ map number_or_0 ds)) ≡ sum (map bend_turn (bends_from (Some b) ds)) + turn_of (number_or_0 (last_of (Some b) ds)) first
+all_turns : (first b : ℕ) (ds : List (Option ℕ)) → list_all is_some ds ≡ true → sum (turns_from first (b ∷ map number_or_0 ds)) ≡ sum (map bend_turn (bends_from (Some b) ds)) + turn_of (number_or_0 (last_direction (Some b) ds)) first
 all_turns first b [] e = omega arith
 all_turns first b (None ∷ ds) e = absurd (true≢false (sym e))
-all_turns first b (Some d ∷ ds) e = regroup (turn_of b d) (turns_from first (d ∷ map number_or_0 ds)) (map bend_turn (bends_from (Some d) ds)) (turn_of (number_or_0 (last_of (Some d) ds)) first) (all_turns first d ds e)
+all_turns first b (Some d ∷ ds) e = regroup (turn_of b d) (turns_from first (d ∷ map number_or_0 ds)) (map bend_turn (bends_from (Some d) ds)) (turn_of (number_or_0 (last_direction (Some d) ds)) first) (all_turns first d ds e)
 
-last_directed : (b : ℕ) (ds : List (Option ℕ)) → list_all is_some ds ≡ true → last_of (Some b) ds ≡ Some (number_or_0 (last_of (Some b) ds))
+last_directed : (b : ℕ) (ds : List (Option ℕ)) → list_all is_some ds ≡ true → last_direction (Some b) ds ≡ Some (number_or_0 (last_direction (Some b) ds))
 last_directed b [] e = refl
 last_directed b (None ∷ ds) e = absurd (true≢false (sym e))
 last_directed b (Some d ∷ ds) e = last_directed d ds e
@@ -88,23 +88,23 @@ no_fault : (o p : Option ℕ) → option_or o p ≡ None → (o ≡ None) × (p 
 no_fault None p e = (refl, e)
 no_fault (Some n) p e = cc
 
-good : (ds : List (Option ℕ)) → option_or (first_bad 1 (bends_from (last_of None ds) ds)) (turn_fault (sum (map bend_turn (bends_from (last_of None ds) ds)))) ≡ None → AreGood ds
+good : (ds : List (Option ℕ)) → option_or (first_bad 1 (bends_from (last_direction None ds) ds)) (turn_fault (sum (map bend_turn (bends_from (last_direction None ds) ds)))) ≡ None → AreGood ds
 good [] e = cc
 good (None ∷ ds) e = cc
 good (Some n ∷ ds) e =
-    let k = no_fault (first_bad 1 (bends_from (last_of (Some n) ds) (Some n ∷ ds))) _ e in
-    let directed = all_directed 1 (last_of (Some n) ds) (Some n ∷ ds) k.0 in
-    by_last (number_or_0 (last_of (Some n) ds)) (last_directed n ds directed) directed k.0 (whole_turn _ k.1)
+    let k = no_fault (first_bad 1 (bends_from (last_direction (Some n) ds) (Some n ∷ ds))) _ e in
+    let directed = all_directed 1 (last_direction (Some n) ds) (Some n ∷ ds) k.0 in
+    by_last (number_or_0 (last_direction (Some n) ds)) (last_directed n ds directed) directed k.0 (whole_turn _ k.1)
   where
-    by_last : (l : ℕ) → last_of (Some n) ds ≡ Some l → list_all is_some ds ≡ true → first_bad 1 (bends_from (last_of (Some n) ds) (Some n ∷ ds)) ≡ None → sum (map bend_turn (bends_from (last_of (Some n) ds) (Some n ∷ ds))) ≡ 16 → AreGood (Some n ∷ ds)
+    by_last : (l : ℕ) → last_direction (Some n) ds ≡ Some l → list_all is_some ds ≡ true → first_bad 1 (bends_from (last_direction (Some n) ds) (Some n ∷ ds)) ≡ None → sum (map bend_turn (bends_from (last_direction (Some n) ds) (Some n ∷ ds))) ≡ 16 → AreGood (Some n ∷ ds)
     by_last l last directed none turns =
-        let at : is_bad_turn (Some l) (Some n) ≡ false = ap (λ o. is_bad_turn o (Some n)) (sym last) ∙ (not_bad (is_bad_turn (last_of (Some n) ds) (Some n)) 1 _ none).0 in
-        let closing : is_left_turn (turn_of (number_or_0 (last_of (Some n) ds)) n) ≡ true = ap (λ o. is_left_turn (turn_of (number_or_0 o) n)) last ∙ left_turn (turn_of l n) at in
+        let at : is_bad_turn (Some l) (Some n) ≡ false = ap (λ o. is_bad_turn o (Some n)) (sym last) ∙ (not_bad (is_bad_turn (last_direction (Some n) ds) (Some n)) 1 _ none).0 in
+        let closing : is_left_turn (turn_of (number_or_0 (last_direction (Some n) ds)) n) ≡ true = ap (λ o. is_left_turn (turn_of (number_or_0 o) n)) last ∙ left_turn (turn_of l n) at in
         record {
           directed = directed;
-          left = all_left 2 n n ds (not_bad (is_bad_turn (last_of (Some n) ds) (Some n)) 1 _ none).1 closing;
+          left = all_left 2 n n ds (not_bad (is_bad_turn (last_direction (Some n) ds) (Some n)) 1 _ none).1 closing;
           whole =
-              closed (turn_between (last_of (Some n) ds) (Some n)) (turns_from n (n ∷ map number_or_0 ds)) (map bend_turn (bends_from (Some n) ds)) (turn_of (number_or_0 (last_of (Some n) ds)) n) (all_turns n n ds directed) turns (ap (λ o. turn_between o (Some n)) last ∙ sym (ap (λ o. turn_of (number_or_0 o) n) last));
+              closed (turn_between (last_direction (Some n) ds) (Some n)) (turns_from n (n ∷ map number_or_0 ds)) (map bend_turn (bends_from (Some n) ds)) (turn_of (number_or_0 (last_direction (Some n) ds)) n) (all_turns n n ds directed) turns (ap (λ o. turn_between o (Some n)) last ∙ sym (ap (λ o. turn_of (number_or_0 o) n) last));
         }
 
 -- ---- from the least corner on
@@ -175,7 +175,7 @@ sheet_is_good corners e =
     let d = and_parts (nat_eq (sum (turns_of (directions_of corners))) 16) (is_least_first corners) c.1 in
     (b.0, c.0, eqb-true (sum (turns_of (directions_of corners))) 16 d.0, d.1)
 
-none_bad : (n first b : ℕ) (ds : List (Option ℕ)) → list_all is_some ds ≡ true → list_all is_left_turn (turns_from first (b ∷ map number_or_0 ds)) ≡ true → (first_bad n (bends_from (Some b) ds) ≡ None) × (is_left_turn (turn_of (number_or_0 (last_of (Some b) ds)) first) ≡ true)
+none_bad : (n first b : ℕ) (ds : List (Option ℕ)) → list_all is_some ds ≡ true → list_all is_left_turn (turns_from first (b ∷ map number_or_0 ds)) ≡ true → (first_bad n (bends_from (Some b) ds) ≡ None) × (is_left_turn (turn_of (number_or_0 (last_direction (Some b) ds)) first) ≡ true)
 none_bad n first b [] directed left = (refl, (and_parts (is_left_turn (turn_of b first)) true left).0)
 none_bad n first b (None ∷ ds) directed left = absurd (true≢false (sym directed))
 none_bad n first b (Some d ∷ ds) directed left =
@@ -186,18 +186,18 @@ none_bad n first b (Some d ∷ ds) directed left =
 apart : (n : ℕ) → n ≡ 0 → n ≡ 16 → ⊥
 apart n e f = omega arith
 
-free : (ds : List (Option ℕ)) → AreGood ds → option_or (first_bad 1 (bends_from (last_of None ds) ds)) (turn_fault (sum (map bend_turn (bends_from (last_of None ds) ds)))) ≡ None
+free : (ds : List (Option ℕ)) → AreGood ds → option_or (first_bad 1 (bends_from (last_direction None ds) ds)) (turn_fault (sum (map bend_turn (bends_from (last_direction None ds) ds)))) ≡ None
 free [] g = absurd (apart 0 refl g.whole)
 free (None ∷ ds) g = absurd (true≢false (sym g.directed))
-free (Some n ∷ ds) g = by_last (number_or_0 (last_of (Some n) ds)) (last_directed n ds g.directed) (none_bad 2 n n ds g.directed g.left)
+free (Some n ∷ ds) g = by_last (number_or_0 (last_direction (Some n) ds)) (last_directed n ds g.directed) (none_bad 2 n n ds g.directed g.left)
   where
-    by_last : (l : ℕ) → last_of (Some n) ds ≡ Some l → (first_bad 2 (bends_from (Some n) ds) ≡ None) × (is_left_turn (turn_of (number_or_0 (last_of (Some n) ds)) n) ≡ true) → option_or (first_bad 1 (bends_from (last_of (Some n) ds) (Some n ∷ ds))) (turn_fault (sum (map bend_turn (bends_from (last_of (Some n) ds) (Some n ∷ ds))))) ≡ None
+    by_last : (l : ℕ) → last_direction (Some n) ds ≡ Some l → (first_bad 2 (bends_from (Some n) ds) ≡ None) × (is_left_turn (turn_of (number_or_0 (last_direction (Some n) ds)) n) ≡ true) → option_or (first_bad 1 (bends_from (last_direction (Some n) ds) (Some n ∷ ds))) (turn_fault (sum (map bend_turn (bends_from (last_direction (Some n) ds) (Some n ∷ ds))))) ≡ None
     by_last l last none =
         let left : is_left_turn (turn_of l n) ≡ true = ap (λ o. is_left_turn (turn_of (number_or_0 o) n)) (sym last) ∙ none.1 in
-        let not_bad : first_bad 1 (bends_from (last_of (Some n) ds) (Some n ∷ ds)) ≡ None =
+        let not_bad : first_bad 1 (bends_from (last_direction (Some n) ds) (Some n ∷ ds)) ≡ None =
         ap (λ o. cond (is_bad_turn o (Some n)) (Some 1) (first_bad 2 (bends_from (Some n) ds))) last ∙ ap (λ t. cond (not t) (Some 1) (first_bad 2 (bends_from (Some n) ds))) left ∙ none.0 in
-        let turns : sum (map bend_turn (bends_from (last_of (Some n) ds) (Some n ∷ ds))) ≡ 16 =
-        opened (turn_between (last_of (Some n) ds) (Some n)) (turns_from n (n ∷ map number_or_0 ds)) (map bend_turn (bends_from (Some n) ds)) (turn_of (number_or_0 (last_of (Some n) ds)) n) (all_turns n n ds g.directed) g.whole
+        let turns : sum (map bend_turn (bends_from (last_direction (Some n) ds) (Some n ∷ ds))) ≡ 16 =
+        opened (turn_between (last_direction (Some n) ds) (Some n)) (turns_from n (n ∷ map number_or_0 ds)) (map bend_turn (bends_from (Some n) ds)) (turn_of (number_or_0 (last_direction (Some n) ds)) n) (all_turns n n ds g.directed) g.whole
         (ap (λ o. turn_between o (Some n)) last ∙ sym (ap (λ o. turn_of (number_or_0 o) n) last)) in
         ap₂ option_or not_bad (ap turn_fault turns)
 

@@ -4,3 +4,4 @@ pub mod Rules
 pub mod PartLaws
 pub mod NewSheet
 pub mod Laws
+pub mod OwnLines

@@ -17,9 +17,9 @@ abbrev pub bends_from : Option ℕ → List (Option ℕ) → List Bend
 bends_from before [] = []
 bends_from before (after ∷ rest) = record { before = before; after = after } ∷ bends_from after rest
 
-abbrev pub last_of : Option ℕ → List (Option ℕ) → Option ℕ
-last_of direction [] = direction
-last_of direction (next ∷ rest) = last_of next rest
+abbrev pub last_direction : Option ℕ → List (Option ℕ) → Option ℕ
+last_direction direction [] = direction
+last_direction direction (next ∷ rest) = last_direction next rest
 
 -- the directions of the sides
 abbrev pub side_directions : List Point → List (Option ℕ)
@@ -27,7 +27,7 @@ side_directions corners = map side_direction (sides_of corners)
 
 -- the bend at each corner
 abbrev pub bends_of : List Point → List Bend
-bends_of corners = bends_from (last_of None (side_directions corners)) (side_directions corners)
+bends_of corners = bends_from (last_direction None (side_directions corners)) (side_directions corners)
 
 -- the side that begins here has no direction, or both have one and the turn is not to the left
 abbrev pub is_bad_turn : Option ℕ → Option ℕ → Bool

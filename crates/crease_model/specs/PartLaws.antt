@@ -16,10 +16,10 @@ use Rattle.plane_geometry.specs.Stored.{IsStretch}
 use Rattle.plane_geometry.specs.Stretch.{Stretch, is_on}
 use Rattle.plane_geometry.specs.SegmentOf.{is_segment, segment_by, segment_from, segment_of}
 use Rattle.plane_geometry.specs.SegmentView.{stretch_of}
-use Rattle.plane_geometry.specs.SideLaws.{may_sum, order_of, order_turned, order_chain, side_chain, side_turned, side_from, square_sign, along_cross, product_by_zero, opposite_twice, turn_of as turn_sign}
+use Rattle.plane_geometry.specs.SideLaws.{may_sum, order_of, order_turned, order_chain, side_chain, side_turned, side_from, square_sign, along_cross, product_by_zero, opposite_twice, turn_sign}
 use Rattle.plane_geometry.specs.StretchLaws.{LiesOn, positive_is, negative_is, ends_order, to_in_line, side_self, on_parts, on_from_parts}
 use Rattle.plane_geometry.specs.DirectionLaws.{along_parts}
-use Rattle.plane_geometry.specs.CommonPoints.{line_through, side_on_line, turn_turned}
+use Rattle.plane_geometry.specs.CommonPointLaws.{line_through, side_on_line, turn_turned}
 use Rattle.crease_model.specs.declared.Piece.{Piece}
 use Rattle.crease_model.specs.declared.Place.TheVariants.{Outside, Border, Inside}
 use Rattle.crease_model.specs.Sheet.{Side, sides_from, sides_of, side_direction, side_number, is_left_of, is_right_of, place_of, is_outside, is_on_segment, holds_both_ends, is_within_side, turn_of, turns_from, turns_of, is_left_turn, directions_of, is_sheet}

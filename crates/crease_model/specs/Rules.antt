@@ -1,11 +1,9 @@
 -- The rules of a crease pattern.
 use Rattle.std.specs.Prelude.{ℕ, ◌+◌, ◌≤◌, Bool, true, false, ◌&&◌, not, List, [], ◌∷◌, length, map, IsTrue, ⊤}
-use Rattle.std.specs.Ordering.{ordering_then, is_lt}
-use Rattle.std.specs.declared.cmp.Ordering.{Ordering}
 use Rattle.std.specs.List.{AllByRecursion}
 use Rattle.plane_geometry.specs.declared.Point.{Point}
 use Rattle.plane_geometry.specs.declared.Segment.{Segment}
-use Rattle.plane_geometry.specs.Position.{compare_positions}
+use Rattle.plane_geometry.specs.Order.{is_before}
 use Rattle.plane_geometry.specs.Stretch.{Stretch, MeetAtEnds}
 use Rattle.plane_geometry.specs.SegmentView.{stretch_of}
 use Rattle.crease_model.specs.declared.Kind.{Kind}
@@ -35,14 +33,7 @@ abbrev pub AllMeetAtEnds : List Piece → Type 0
 AllMeetAtEnds [] = ⊤
 AllMeetAtEnds (p ∷ ps) = AllByRecursion (λ q. MeetAtEnds (stretch_of p.segment) (stretch_of q.segment)) ps × AllMeetAtEnds ps
 
--- by the lesser end, then by the greater
-abbrev pub compare_stretches : Stretch → Stretch → Ordering
-compare_stretches s u = ordering_then (compare_positions s.from u.from) (compare_positions s.to u.to)
-
-abbrev pub is_before : Segment → Segment → Bool
-is_before s u = is_lt (compare_stretches (stretch_of s) (stretch_of u))
-
--- each segment stands before the next
+-- each segment stands before the next, by the lesser end and then by the greater
 abbrev pub is_ascending : List Segment → Bool
 is_ascending [] = true
 is_ascending (s ∷ []) = true
@@ -54,9 +45,13 @@ segments_of pieces = map (λ p. p.segment) pieces
 abbrev pub size_of : PatternView → ℕ
 size_of p = length p.pieces + length p.aux
 
+-- a pattern has at most so many pieces and auxiliary lines
+abbrev pub most_pieces : ℕ
+most_pieces = 2000
+
 pub record IsPattern (p : PatternView) : Type 0 where
   pub creases : AllByRecursion (λ q. IsTrue (is_crease p.corners q)) p.pieces
   pub meetings : AllMeetAtEnds p.pieces
   pub lines : AllByRecursion (λ s. IsTrue (is_on_sheet p.corners (stretch_of s))) p.aux
-  pub size : size_of p ≤ 2000
+  pub size : size_of p ≤ most_pieces
   pub order : IsTrue (is_ascending (segments_of p.pieces)) × IsTrue (is_ascending p.aux)

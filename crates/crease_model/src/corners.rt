@@ -4,7 +4,7 @@ ghost use Rattle.std.specs.Prelude.{◌≡◌, ◌<◌, ◌≤◌, length, None,
 ghost use Rattle.std.specs.Option.{option_map};
 ghost use Rattle.plane_geometry.specs.DirView.{dir_number};
 ghost use Rattle.crease_model.specs.Sheet.{turn_of};
-ghost use Rattle.crease_model.specs.NewSheet.{side_directions, last_of, is_bad_turn, turn_between, sheet_fault, least_place, from_least};
+ghost use Rattle.crease_model.specs.NewSheet.{side_directions, last_direction, is_bad_turn, turn_between, sheet_fault, least_place, from_least};
 
 use crate::sides::next_corner;
 use plane_geometry::{Dir, Point, direction};
@@ -40,7 +40,7 @@ fn turn_at(before: Option<Dir>, after: Option<Dir>) -> Option<u8>
 // The direction of the side from the last corner to the first.
 fn last_direction(corners: &[Point]) -> Option<Dir>
     requires { 0 < length corners.now }
-    ensures { option_map dir_number result ≡ last_of None (side_directions corners.now) }
+    ensures { option_map dir_number result ≡ last_direction None (side_directions corners.now) }
 {
     direction(&corners[corners.len() - 1], &corners[0])
 }

@@ -1,6 +1,6 @@
 //! What new sheets are. These functions do nothing: each contract is a law of `sheet_of`.
 
-ghost use Rattle.crease_model.specs.Laws.{NewIsSheet, SheetIsNew, SheetIsTaken};
+ghost use Rattle.crease_model.specs.Laws.{NewIsSheet, SheetIsNew, SheetIsTaken, BendsAreNeighbours};
 
 /// What is made of 3 to 16 corners meets the rules of sheets.
 #[tactic(auto, using(crate::proofs::NewSheets::new_is_sheet))]
@@ -18,4 +18,9 @@ pub fn sheet_is_new()
 #[tactic(auto, using(crate::proofs::NewSheets::taken))]
 pub fn sheet_is_taken()
     ensures { SheetIsTaken }
+{}
+
+/// There is a bend at each corner, of the side that ends there and of the side that begins there.
+pub fn bends_are_neighbours()
+    ensures { BendsAreNeighbours }
 {}

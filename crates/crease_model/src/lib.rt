@@ -58,6 +58,16 @@ pub enum SheetFault {
     Memory,
 }
 
+impl From<AllocError> for SheetFault {
+    ghost use Rattle.crease_model.specs.declared.SheetFault.TheVariants.{Memory};
+
+    ghost from_gives = { λ _ e. e ≡ Memory };
+
+    fn from(_e: AllocError) -> SheetFault {
+        SheetFault::Memory
+    }
+}
+
 /// A convex sheet, seen as its corners counterclockwise from the least one.
 #[derive(Drop)]
 pub struct Sheet {
@@ -103,10 +113,9 @@ impl Sheet {
     {
         match fault_of(corners) {
             Some(corner) => Err(SheetFault::BadSheet { corner }),
-            None => match rotated(alloc, corners) {
-                Ok(corners) => Ok(Sheet { corners }),
-                Err(_) => Err(SheetFault::Memory),
-            },
+            None => Ok(Sheet {
+                corners: rotated(alloc, corners)?,
+            }),
         }
     }
 
@@ -145,6 +154,9 @@ impl Sheet {
         })
     }
 }
+
+/// The most pieces and auxiliary lines of a pattern.
+pub const MOST_PIECES: usize = 2000;
 
 /// A crease pattern: a sheet, crease pieces in order, and auxiliary lines in order.
 #[derive(Drop)]
@@ -221,6 +233,30 @@ impl Pattern {
             sheet: self.sheet.copy()?,
             pieces: Vec::from_slice(alloc, self.pieces.as_slice())?,
             aux: Vec::from_slice(alloc, self.aux.as_slice())?,
+        })
+    }
+
+    /// The pattern of these pieces, on an equal sheet and with equal auxiliary lines.
+    pub fn with_pieces(&self, pieces: Vec<Piece>) -> Result<Pattern, AllocError>
+        requires { IsPattern (record { corners = self.now.corners; pieces = pieces.items; aux = self.now.aux }) }
+        ensures { IfOk result (λ pattern. pattern ≡ record { corners = self.now.corners; pieces = pieces.items; aux = self.now.aux }) }
+    {
+        Ok(Pattern {
+            sheet: self.sheet.copy()?,
+            pieces,
+            aux: Vec::from_slice(self.sheet.allocator(), self.aux.as_slice())?,
+        })
+    }
+
+    /// The pattern of these auxiliary lines, on an equal sheet and with equal pieces.
+    pub fn with_aux(&self, aux: Vec<Segment>) -> Result<Pattern, AllocError>
+        requires { IsPattern (record { corners = self.now.corners; pieces = self.now.pieces; aux = aux.items }) }
+        ensures { IfOk result (λ pattern. pattern ≡ record { corners = self.now.corners; pieces = self.now.pieces; aux = aux.items }) }
+    {
+        Ok(Pattern {
+            sheet: self.sheet.copy()?,
+            pieces: Vec::from_slice(self.sheet.allocator(), self.pieces.as_slice())?,
+            aux,
         })
     }
 

@@ -11,19 +11,19 @@ use Rattle.crease_model.specs.declared.Kind.TheVariants.{Edge, Mountain, Valley,
 use Rattle.crease_model.specs.declared.Piece.{Piece}
 use Rattle.crease_model.specs.View.{PatternView}
 use Rattle.crease_model.specs.Sheet.{is_within_side}
-use Rattle.crease_model.specs.Rules.{IsPattern, AllMeetAtEnds, is_ascending, is_on_sheet, size_of}
+use Rattle.crease_model.specs.Rules.{IsPattern, AllMeetAtEnds, is_ascending, is_on_sheet, size_of, most_pieces}
 use Rattle.line_split.specs.Cuts.{cuts_of}
-use Rattle.line_split.specs.Members.{Member, member, contained}
-use Rattle.crease_store.specs.declared.faults.StoreFault.{StoreFault}
-use Rattle.crease_store.specs.declared.faults.StoreFault.TheVariants.{EdgeOffBorder, OutsideSheet, OnBorder, Crossing, TooManyPieces}
+use Rattle.line_split.specs.MemberLaws.{Member, member, contained}
+use Rattle.crease_store.specs.declared.faults.StoreRefusal.{StoreRefusal}
+use Rattle.crease_store.specs.declared.faults.StoreRefusal.TheVariants.{EdgeOffBorder, OutsideSheet, OnBorder, Crossing, TooManyPieces}
 use Rattle.crease_store.specs.Added.{IsAdded, IsAddedBetween, IsCreaseAdded, IsLineAdded, IsPieceOfAdd}
-use Rattle.crease_store.specs.Placed.{segment_at}
-use Rattle.crease_store.specs.Placed.{line_at}
-use Rattle.crease_store.specs.Adding.{is_touched, untouched, with_crease, with_line, if_it_fits, crease_cut, crease_added, line_added, segment_added, segment_fault, added_between, add_of}
-use Rattle.crease_store.specs.Placed.{placed}
-use Rattle.crease_store.specs.Laws.{AcceptedIsAdded, AddedMeet, AddedIsOne}
+use Rattle.crease_store.specs.InOrder.{segment_at}
+use Rattle.crease_store.specs.InOrder.{line_at}
+use Rattle.crease_store.specs.Adding.{is_touched, untouched, with_crease, with_line, if_it_fits, crease_cut, crease_added, line_added, segment_added, segment_refusal, added_between, add_of}
+use Rattle.crease_store.specs.InOrder.{with_in_order}
+use Rattle.crease_store.specs.Laws.{AddedMeet, AddedIsOne}
 use Rattle.crease_store.proofs.Ascending.{one_ascending, filter_ascends}
-use Rattle.crease_store.proofs.PlacedLaws.{placed_ascends, placed_all_ascends, placed_new, placed_old, placed_either}
+use Rattle.crease_store.proofs.InOrderLaws.{placed_ascends, placed_all_ascends, placed_new, placed_old, placed_either}
 use Rattle.crease_store.proofs.AddedParts.{new_pieces, piece_from_member, member_from_piece}
 use Rattle.crease_store.proofs.Meetings.{crease_meets}
 
@@ -47,7 +47,7 @@ line_is_added old s rules =
     record {
       corners = refl;
       pieces = refl;
-      order = lines_ascend (placed line_at old.aux s) ∙ placed_ascends line_at old.aux s (sym (lines_ascend old.aux) ∙ rules.order.1);
+      order = lines_ascend (with_in_order line_at old.aux s) ∙ placed_ascends line_at old.aux s (sym (lines_ascend old.aux) ∙ rules.order.1);
       aux = λ u. (λ c. old_or_new u (placed_either line_at old.aux s u (member _ u c)), there u);
     }
   where
@@ -55,27 +55,27 @@ line_is_added old s rules =
     old_or_new u (inl e) = inr (sym e)
     old_or_new u (inr m) = inl (contained old.aux u m)
 
-    new : (u : Segment) → s ≡ u → Contains (placed line_at old.aux s) u
-    new u e = subst (Contains (placed line_at old.aux s)) e (contained _ s (placed_new line_at old.aux s))
+    new : (u : Segment) → s ≡ u → Contains (with_in_order line_at old.aux s) u
+    new u e = subst (Contains (with_in_order line_at old.aux s)) e (contained _ s (placed_new line_at old.aux s))
 
-    there : (u : Segment) → Contains old.aux u ⊎ (u ≡ s) → Contains (placed line_at old.aux s) u
+    there : (u : Segment) → Contains old.aux u ⊎ (u ≡ s) → Contains (with_in_order line_at old.aux s) u
     there u (inl c) = elim (placed_old line_at old.aux s u (member old.aux u c)) [ inl m ↦ contained _ u m | inr same ↦ new u same ]
     there u (inr e) = new u (sym e)
 
 -- ---- an accepted line
 
-err_ok : {F : Type 0} (e : StoreFault) (p : PatternView) → Err e ≡ Ok p → F
+err_ok : {F : Type 0} (e : StoreRefusal) (p : PatternView) → Err e ≡ Ok p → F
 err_ok e p h = absurd (cc)
 
 fitted_is : (p q : PatternView) → if_it_fits p ≡ Ok q → p ≡ q
-fitted_is p q e = go (nat_le (size_of p) 2000) e
+fitted_is p q e = go (nat_le (size_of p) most_pieces) e
   where
     go : (b : Bool) → cond b (Ok p) (Err (TooManyPieces (size_of p))) ≡ Ok q → p ≡ q
     go true f = cc
     go false f = err_ok (TooManyPieces (size_of p)) q f
 
 -- what an answer after a refusal that did not come is
-chosen_last : (b : Bool) (fault : StoreFault) (rest : Result PatternView StoreFault) (new : PatternView) → cond b (Err fault) rest ≡ Ok new → rest ≡ Ok new
+chosen_last : (b : Bool) (fault : StoreRefusal) (rest : Result PatternView StoreRefusal) (new : PatternView) → cond b (Err fault) rest ≡ Ok new → rest ≡ Ok new
 chosen_last true fault rest new e = err_ok fault new e
 chosen_last false fault rest new e = e
 
@@ -104,10 +104,10 @@ module _ (old : PatternView) (rules : IsPattern old) (new : PatternView) where
   accepted Aux s e = line_accepted s e
 
   by_segment : (kind : Kind) (from to : Point) (o : Option Segment) → segment_of from to ≡ o → added_between old kind from to o ≡ Ok new → IsAddedBetween old kind from to new
-  by_segment kind from to None e h = err_ok (segment_fault from to) new h
+  by_segment kind from to None e h = err_ok (segment_refusal from to) new h
   by_segment kind from to (Some s) e h = record { segment = s; ends = e; added = accepted kind s h }
 
-pub accepted_is_added : AcceptedIsAdded
+pub accepted_is_added : (old : PatternView) (kind : Kind) (from to : Point) (new : PatternView) → IsPattern old → add_of old kind from to ≡ Ok new → IsAddedBetween old kind from to new
 unfolding add_of
 accepted_is_added old kind from to new rules e = by_segment old rules new kind from to (segment_of from to) refl e
 

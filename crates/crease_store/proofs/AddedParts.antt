@@ -11,22 +11,22 @@ use Rattle.plane_geometry.specs.SegmentView.{stretch_of}
 use Rattle.plane_geometry.specs.Stretch.{is_between, is_end, is_on}
 use Rattle.plane_geometry.specs.SideLaws.{order_of}
 use Rattle.plane_geometry.specs.StretchLaws.{end_parts, from_end, to_end}
-use Rattle.plane_geometry.specs.CommonPoints.{between_parts, between_from_parts, touching_is}
+use Rattle.plane_geometry.specs.CommonPointLaws.{between_parts, between_from_parts, touching_is}
 use Rattle.plane_geometry.specs.SegmentLaws.{point_is}
 use Rattle.crease_model.specs.declared.Kind.{Kind}
 use Rattle.crease_model.specs.declared.Piece.{Piece}
 use Rattle.crease_model.specs.Rules.{AllMeetAtEnds}
 use Rattle.line_split.specs.Cuts.{cuts_of}
 use Rattle.line_split.specs.CutLaws.{cuts_are_cuts, cuts_are_all, cuts_ascend}
-use Rattle.line_split.specs.Members.{Member, member, contained, filter_member, member_filter}
+use Rattle.line_split.specs.MemberLaws.{Member, member, contained, filter_member, member_filter}
 use Rattle.line_split.specs.Parts.{parts_of}
 use Rattle.line_split.specs.PartLaws.{IsPartEnd, IsPart, parts_are_parts, parts_are_all, part_is_on}
 use Rattle.crease_store.specs.Added.{covers, is_vertex, HasAddedKind, IsPieceOfAdd}
-use Rattle.crease_store.specs.Placed.{segment_at}
+use Rattle.crease_store.specs.InOrder.{segment_at}
 use Rattle.crease_store.specs.Adding.{is_touched, rest_of, rests_of, untouched, pieces_with}
 use Rattle.crease_store.proofs.Covered.{end_lies, covers_self, same_segment, covering_between, between_same, vertex_at_new, vertex_at_old, inner_vertex_on, covered_once}
 use Rattle.crease_store.proofs.Members.{member_left, member_right, member_cases, member_flat_map, flat_map_member, piece_is}
-use Rattle.crease_store.proofs.PlacedLaws.{placed_all_either, placed_all_has}
+use Rattle.crease_store.proofs.InOrderLaws.{placed_all_either, placed_all_has}
 
 -- ---- vertices and cut points
 

@@ -14,8 +14,9 @@ use Rattle.plane_geometry.specs.SegmentView.{stretch_of}
 use Rattle.plane_geometry.specs.SideLaws.{order_of, compare_is, order_self, order_turned}
 use Rattle.plane_geometry.specs.StretchLaws.{before_is, before_then, order_from, turned_zero}
 use Rattle.plane_geometry.specs.Position.{compare_positions}
-use Rattle.crease_model.specs.Rules.{compare_stretches, is_before, is_ascending}
-use Rattle.line_split.specs.Members.{Member, filter_member}
+use Rattle.plane_geometry.specs.Order.{compare_stretches, is_before}
+use Rattle.crease_model.specs.Rules.{is_ascending}
+use Rattle.line_split.specs.MemberLaws.{Member, filter_member}
 
 -- ---- which segment stands before which
 
@@ -58,11 +59,6 @@ before_chain s t u (inl e) (inr f) = inl (before_then s.from t.from u.from e (ap
 before_chain s t u (inr e) (inl f) = inl (order_from s.from t.from u.from e.0 ∙ f)
 before_chain s t u (inr e) (inr f) = inr (order_from s.from t.from u.from e.0 ∙ f.0, before_then s.to t.to u.to e.1 (ap is_negative f.1))
 
-pub before_trans : (s t u : Segment) → is_before s t ≡ true → is_before t u ≡ true → is_before s u ≡ true
-before_trans s t u e f =
-    before_from (stretch_of s) (stretch_of u)
-    (before_chain (stretch_of s) (stretch_of t) (stretch_of u) (before_parts (stretch_of s) (stretch_of t) e) (before_parts (stretch_of t) (stretch_of u) f))
-
 pub before_by_from : (s u : Segment) → order_of (stretch_of s).from (stretch_of u).from ≡ Pos → is_before s u ≡ true
 unfolding StandsBefore
 before_by_from s u e = before_from (stretch_of s) (stretch_of u) (inl e)
@@ -76,9 +72,6 @@ before_begins s u e =
       | inl f ↦ ap is_positive (order_turned (stretch_of s).from (stretch_of u).from ∙ ap opposite_sign f)
       | inr f ↦ ap is_positive (turned_zero (stretch_of s).from (stretch_of u).from f.0)
     ]
-
-pub before_irreflexive : (s : Segment) → is_before s s ≡ true → ⊥
-before_irreflexive s e = not_before_itself (stretch_of s) (before_parts (stretch_of s) (stretch_of s) e)
 
 -- ---- lists
 

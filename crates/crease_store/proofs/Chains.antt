@@ -13,10 +13,11 @@ use Rattle.plane_geometry.specs.SegmentView.{stretch_of, lesser_end, greater_end
 use Rattle.crease_model.specs.declared.Kind.{Kind}
 use Rattle.crease_model.specs.declared.Kind.TheVariants.{Edge, Mountain, Valley, Aux}
 use Rattle.crease_model.specs.declared.Piece.{Piece}
-use Rattle.crease_model.specs.Rules.{is_before}
-use Rattle.crease_store.specs.Merged.{is_same_kind, are_alike, begins_at, arrives_at, single, only_from, only_to, is_loose, next_piece, last_piece, IsJoined, IsChain, last_of}
-use Rattle.line_split.specs.Members.{Member, member, contained, filter_member, member_filter}
-use Rattle.crease_store.proofs.Ascending.{before_trans, before_irreflexive, before_by_from}
+use Rattle.plane_geometry.specs.Order.{is_before}
+use Rattle.crease_store.specs.Merged.{is_same_kind, are_alike, begins_at, arrives_at, single, only_from, only_to, is_loose, next_piece, last_piece, IsJoined, IsChain, last_in_chain}
+use Rattle.line_split.specs.MemberLaws.{Member, member, contained, filter_member, member_filter}
+use Rattle.plane_geometry.specs.OrderLaws.{before_trans, before_irreflexive}
+use Rattle.crease_store.proofs.Ascending.{before_by_from}
 use Rattle.crease_store.proofs.Steps.{last_on, last_stays}
 
 -- ---- points and kinds
@@ -154,7 +155,7 @@ module _ (pieces : List Piece) where
 
   -- r is reached from p along a chain
   abbrev pub Reaches : Piece → Piece → Type 0
-  Reaches p r = (rest : List Piece) × IsChain pieces p rest × (last_of p rest ≡ r)
+  Reaches p r = (rest : List Piece) × IsChain pieces p rest × (last_in_chain p rest ≡ r)
 
   pub reaches_itself : (p : Piece) → Reaches p p
   reaches_itself p = ([], tt, refl)
@@ -163,7 +164,7 @@ module _ (pieces : List Piece) where
   reaches_on p q r h w = (q ∷ w.0, (h, w.1), w.2)
 
   -- one is at the end of a chain, or has come by a last step
-  pub last_step : (p : Piece) (rest : List Piece) → IsChain pieces p rest → (p ≡ last_of p rest) ⊎ ((x : Piece) × Reaches p x × IsJoined pieces x (last_of p rest))
+  pub last_step : (p : Piece) (rest : List Piece) → IsChain pieces p rest → (p ≡ last_in_chain p rest) ⊎ ((x : Piece) × Reaches p x × IsJoined pieces x (last_in_chain p rest))
   last_step p [] c = inl refl
   last_step p (q ∷ qs) c =
       elim (last_step q qs c.1) [
@@ -172,7 +173,7 @@ module _ (pieces : List Piece) where
       ]
 
   -- of two pieces from which one piece is reached, one reaches the other
-  one_way : (p q r : Piece) (rest : List Piece) → IsChain pieces p rest → last_of p rest ≡ r → Reaches q r → Reaches p q ⊎ Reaches q p
+  one_way : (p q r : Piece) (rest : List Piece) → IsChain pieces p rest → last_in_chain p rest ≡ r → Reaches q r → Reaches p q ⊎ Reaches q p
   one_way p q r [] c e w = inr (w.0, w.1, w.2 ∙ sym e)
   one_way p q r (x ∷ xs) c e w =
       elim (one_way x q r xs c.1 e w) [
@@ -197,14 +198,14 @@ module _ (pieces : List Piece) where
       elim (one_way p q r w.0 w.1 w.2 u) [ inl a ↦ nothing_before p q begins_q a | inr b ↦ sym (nothing_before q p begins_p b) ]
 
   -- chains that begin with one piece and end where nothing goes on end with one piece
-  pub one_ending : (p : Piece) (rest other : List Piece) → IsChain pieces p rest → IsChain pieces p other → is_loose pieces (greater_end (last_of p rest).segment) ≡ false → is_loose pieces (greater_end (last_of p other).segment) ≡ false → last_of p rest ≡ last_of p other
+  pub one_ending : (p : Piece) (rest other : List Piece) → IsChain pieces p rest → IsChain pieces p other → is_loose pieces (greater_end (last_in_chain p rest).segment) ≡ false → is_loose pieces (greater_end (last_in_chain p other).segment) ≡ false → last_in_chain p rest ≡ last_in_chain p other
   one_ending p [] [] c d e f = refl
   one_ending p [] (y ∷ ys) c d e f = absurd (true≢false (sym d.0.loose ∙ e))
   one_ending p (x ∷ xs) [] c d e f = absurd (true≢false (sym c.0.loose ∙ f))
   one_ending p (x ∷ xs) (y ∷ ys) c d e f =
       let same : y ≡ x = one_next p y x d.0 c.0 in
-      one_ending x xs ys c.1 (subst (λ (t : Piece). IsChain pieces t ys) same d.1) e (subst (λ (t : Piece). is_loose pieces (greater_end (last_of t ys).segment) ≡ false) same f)
-      ∙ ap (λ (t : Piece). last_of t ys) (sym same)
+      one_ending x xs ys c.1 (subst (λ (t : Piece). IsChain pieces t ys) same d.1) e (subst (λ (t : Piece). is_loose pieces (greater_end (last_in_chain t ys).segment) ≡ false) same f)
+      ∙ ap (λ (t : Piece). last_in_chain t ys) (sym same)
 
 -- ---- each chain ends
 

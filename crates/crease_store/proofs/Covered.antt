@@ -10,13 +10,13 @@ use Rattle.plane_geometry.specs.Stretch.{Stretch, MeetAtEnds, is_between, is_end
 use Rattle.plane_geometry.specs.Stored.{IsStretch}
 use Rattle.plane_geometry.specs.SideLaws.{order_of, order_turned, side_same}
 use Rattle.plane_geometry.specs.StretchLaws.{before_then, then_before, ends_order, order_from, order_to, side_to, on_from_parts, end_parts, from_end, to_end}
-use Rattle.plane_geometry.specs.CommonPoints.{LiesBetween, between_parts, between_lies, between_no_end, middle_of, middle_between}
+use Rattle.plane_geometry.specs.CommonPointLaws.{LiesBetween, between_parts, between_lies, between_no_end, middle_of, middle_between}
 use Rattle.plane_geometry.specs.SegmentLaws.{point_is, segment_is}
 use Rattle.crease_model.specs.declared.Piece.{Piece}
 use Rattle.crease_model.specs.Rules.{AllMeetAtEnds}
 use Rattle.crease_model.specs.PartLaws.{ends_lie, on_covering}
 use Rattle.line_split.specs.Cuts.{is_meeting_point}
-use Rattle.line_split.specs.Members.{Member, any_member, member_any}
+use Rattle.line_split.specs.MemberLaws.{Member, any_member, member_any}
 use Rattle.crease_store.specs.Added.{covers, is_vertex}
 use Rattle.crease_store.proofs.Members.{members_meet}
 

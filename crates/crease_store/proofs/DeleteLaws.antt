@@ -1,6 +1,7 @@
 -- What taking away and another kind mean, proved.
-use Rattle.std.proofs.Common.{◌≡◌, Bool, true, false, cond, not, inl, inr, List, [], ◌∷◌, map, refl, sym, ap, ap₂, ◌∙◌}
-use Rattle.std.specs.Prelude.{Ok, Err, MatchResult}
+use Rattle.std.proofs.Common.{◌≡◌, Bool, true, false, cond, not, inl, inr, List, [], ◌∷◌, map, refl, sym, ap, ap₂, subst, ◌∙◌}
+use Rattle.std.specs.Prelude.{◌↔◌, Ok, Err, IfOk, IsErrOf, MatchResult}
+use Rattle.std.specs.declared.result.Result.{Result}
 use Rattle.std.specs.Ordering.{is_lt}
 use Rattle.std.proofs.lemmas.Bool.{and_parts, and_from, true≢false, false_from_ne_true, not-true, not_from_false}
 use Rattle.surd_number.specs.declared.Sgn.TheVariants.{Neg}
@@ -17,12 +18,16 @@ use Rattle.crease_model.specs.declared.Kind.{Kind}
 use Rattle.crease_model.specs.declared.Piece.{Piece}
 use Rattle.crease_model.specs.Rules.{IsPattern}
 use Rattle.crease_model.specs.View.{PatternView}
-use Rattle.crease_store.specs.declared.faults.StoreFault.TheVariants.{NoSuchPiece}
-use Rattle.crease_store.specs.Changed.{has_ends, is_piece_between, has_piece, has_line, without_piece, without_line, delete_of, in_kind, with_kind, set_of}
-use Rattle.crease_store.specs.ChangeLaws.{HasEnds, HasPiece, HasLine, IsPieceTaken, IsLineTaken, IsDeleted, DeleteTakesAway, IsKindSet, SetTurnsOne}
-use Rattle.line_split.specs.Members.{Member, member, contained, any_member, member_any, filter_member, member_filter}
+use Rattle.crease_store.specs.declared.faults.StoreFault.{StoreFault}
+use Rattle.crease_store.specs.declared.faults.StoreFault.TheVariants as fault
+use Rattle.crease_store.specs.declared.faults.StoreRefusal.{StoreRefusal}
+use Rattle.crease_store.specs.declared.faults.StoreRefusal.TheVariants.{NoSuchPiece}
+use Rattle.crease_store.specs.Answer.{IsAnswer, HasMemory}
+use Rattle.crease_store.specs.Changed.{has_ends, is_piece_between, has_piece, has_line, without_piece, without_line, delete_of, in_kind, with_kind, set_of, HasEnds, HasPiece, HasLine, IsPieceTaken, IsLineTaken, IsDeleted, IsKindSet}
+use Rattle.line_split.specs.MemberLaws.{Member, member, contained, any_member, member_any, filter_member, member_filter}
 use Rattle.crease_store.proofs.Changes.{IsPattern-without_piece, IsPattern-without_line, same_segments, segment_stays}
 use Rattle.crease_store.proofs.Chains.{same_point, point_self}
+use Rattle.crease_store.proofs.Refused.{refused_where}
 
 -- ---- the ends
 
@@ -103,7 +108,7 @@ line_taken old p q rules none e =
       );
     }
 
-pub delete_takes_away : DeleteTakesAway
+delete_takes_away : (old : PatternView) (p q : Point) → IsPattern old → MatchResult (delete_of old p q) (λ new. IsDeleted old p q new) (λ e. (e ≡ NoSuchPiece) × (¬ HasPiece old p q) × (¬ HasLine old p q))
 unfolding delete_of
 delete_takes_away old p q rules = go (has_piece old.pieces p q) (has_line old.aux p q) refl refl
   where
@@ -156,10 +161,60 @@ module _ (kind : Kind) (p q : Point) where
         );
       }
 
-pub set_turns_one : SetTurnsOne
+set_turns_one : (old : PatternView) (kind : Kind) (p q : Point) → MatchResult (set_of old kind p q) (λ new. IsKindSet old kind p q new) (λ e. (e ≡ NoSuchPiece) × (¬ HasPiece old p q))
 unfolding set_of
 set_turns_one old kind p q = go (has_piece old.pieces p q) refl
   where
     go : (b : Bool) → has_piece old.pieces p q ≡ b → MatchResult (cond b (Ok (with_kind old kind p q)) (Err NoSuchPiece)) (λ new. IsKindSet old kind p q new) (λ e. (e ≡ NoSuchPiece) × (¬ HasPiece old p q))
     go true e = kind_set kind p q old e
     go false e = (refl, no_piece_there old p q e)
+
+-- ---- answers
+
+pub deleted_where : (old : PatternView) (p q : Point) → IsPattern old → (result : Result PatternView StoreFault) → IsAnswer result (delete_of old p q) → IfOk result (λ new. IsDeleted old p q new)
+deleted_where old p q rules (Ok new) exact =
+    subst (λ (r : Result PatternView StoreRefusal). MatchResult r (λ new. IsDeleted old p q new) (λ e. (e ≡ NoSuchPiece) × (¬ HasPiece old p q) × (¬ HasLine old p q))) exact (delete_takes_away old p q rules)
+deleted_where old p q rules (Err e) exact = tt
+
+nothing_deleted : (old : PatternView) (p q : Point) → IsPattern old → (delete_of old p q ≡ Err NoSuchPiece) ↔ ((¬ HasPiece old p q) × (¬ HasLine old p q))
+nothing_deleted old p q rules = (to, from)
+  where
+    to : delete_of old p q ≡ Err NoSuchPiece → (¬ HasPiece old p q) × (¬ HasLine old p q)
+    to e =
+        let w = subst (λ (r : Result PatternView StoreRefusal). MatchResult r (λ new. IsDeleted old p q new) (λ e. (e ≡ NoSuchPiece) × (¬ HasPiece old p q) × (¬ HasLine old p q))) e (delete_takes_away old p q rules) in
+        (w.1, w.2)
+
+    go : (r : Result PatternView StoreRefusal) → MatchResult r (λ new. IsDeleted old p q new) (λ e. (e ≡ NoSuchPiece) × (¬ HasPiece old p q) × (¬ HasLine old p q)) → (¬ HasPiece old p q) × (¬ HasLine old p q) → r ≡ Err NoSuchPiece
+    go (Err e) w none = ap Err w.0
+    go (Ok new) (inl w) none = absurd (none.0 w.there)
+    go (Ok new) (inr w) none = absurd (none.1 w.there)
+
+    from : (¬ HasPiece old p q) × (¬ HasLine old p q) → delete_of old p q ≡ Err NoSuchPiece
+    from none = go (delete_of old p q) (delete_takes_away old p q rules) none
+
+pub not_deleted_where : (old : PatternView) (p q : Point) → IsPattern old → (result : Result PatternView StoreFault) → IsAnswer result (delete_of old p q)
+    → IsErrOf result fault.NoSuchPiece ↔ (HasMemory result × ((¬ HasPiece old p q) × (¬ HasLine old p q)))
+not_deleted_where old p q rules result exact =
+    refused_where (delete_of old p q) result NoSuchPiece ((¬ HasPiece old p q) × (¬ HasLine old p q)) exact (nothing_deleted old p q rules)
+
+pub set_where : (old : PatternView) (kind : Kind) (p q : Point) (result : Result PatternView StoreFault) → IsAnswer result (set_of old kind p q) → IfOk result (λ new. IsKindSet old kind p q new)
+set_where old kind p q (Ok new) exact =
+    subst (λ (r : Result PatternView StoreRefusal). MatchResult r (λ new. IsKindSet old kind p q new) (λ e. (e ≡ NoSuchPiece) × (¬ HasPiece old p q))) exact (set_turns_one old kind p q)
+set_where old kind p q (Err e) exact = tt
+
+nothing_set : (old : PatternView) (kind : Kind) (p q : Point) → (set_of old kind p q ≡ Err NoSuchPiece) ↔ (¬ HasPiece old p q)
+nothing_set old kind p q = (to, from)
+  where
+    to : set_of old kind p q ≡ Err NoSuchPiece → ¬ HasPiece old p q
+    to e = (subst (λ (r : Result PatternView StoreRefusal). MatchResult r (λ new. IsKindSet old kind p q new) (λ e. (e ≡ NoSuchPiece) × (¬ HasPiece old p q))) e (set_turns_one old kind p q)).1
+
+    go : (r : Result PatternView StoreRefusal) → MatchResult r (λ new. IsKindSet old kind p q new) (λ e. (e ≡ NoSuchPiece) × (¬ HasPiece old p q)) → (¬ HasPiece old p q) → r ≡ Err NoSuchPiece
+    go (Err e) w none = ap Err w.0
+    go (Ok new) w none = absurd (none w.there)
+
+    from : (¬ HasPiece old p q) → set_of old kind p q ≡ Err NoSuchPiece
+    from none = go (set_of old kind p q) (set_turns_one old kind p q) none
+
+pub not_set_where : (old : PatternView) (kind : Kind) (p q : Point) (result : Result PatternView StoreFault) → IsAnswer result (set_of old kind p q)
+    → IsErrOf result fault.NoSuchPiece ↔ (HasMemory result × (¬ HasPiece old p q))
+not_set_where old kind p q result exact = refused_where (set_of old kind p q) result NoSuchPiece (¬ HasPiece old p q) exact (nothing_set old kind p q)

@@ -15,7 +15,7 @@ use Rattle.plane_geometry.specs.Stretch.{Stretch, is_on}
 use Rattle.plane_geometry.specs.SegmentView.{stretch_of, lesser_end, greater_end, direction_number}
 use Rattle.plane_geometry.specs.SideLaws.{order_of, order_turned, side_from}
 use Rattle.plane_geometry.specs.StretchLaws.{LiesOn, before_is, before_then, then_before, ends_order, to_in_line, on_parts, on_from_parts}
-use Rattle.plane_geometry.specs.CommonPoints.{LiesBetween, line_through}
+use Rattle.plane_geometry.specs.CommonPointLaws.{LiesBetween, line_through}
 
 -- ---- directions
 

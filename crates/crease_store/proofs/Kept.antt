@@ -12,15 +12,15 @@ use Rattle.crease_model.specs.View.{PatternView}
 use Rattle.crease_model.specs.PartLaws.{part_is_crease}
 use Rattle.crease_model.specs.Rules.{IsPattern, is_crease, is_crease_kind, is_on_sheet, size_of}
 use Rattle.line_split.specs.Cuts.{cuts_of}
-use Rattle.line_split.specs.Members.{Member, member, contained, all_member, all_from_members}
+use Rattle.line_split.specs.MemberLaws.{Member, member, contained, all_member, all_from_members}
 use Rattle.crease_store.specs.Added.{HasAddedKind}
-use Rattle.crease_store.specs.Placed.{line_at}
+use Rattle.crease_store.specs.InOrder.{line_at}
 use Rattle.crease_store.specs.Adding.{pieces_with, with_crease, with_line}
-use Rattle.crease_store.specs.Placed.{placed}
+use Rattle.crease_store.specs.InOrder.{with_in_order}
 use Rattle.crease_store.proofs.AddLaws.{crease_is_added, line_is_added}
 use Rattle.crease_store.proofs.Lengths.{few_with}
 use Rattle.crease_store.proofs.Meetings.{crease_meets}
-use Rattle.crease_store.proofs.PlacedLaws.{placed_either}
+use Rattle.crease_store.proofs.InOrderLaws.{placed_either}
 
 module _ (old : PatternView) (kind : Kind) (s : Segment) (rules : IsPattern old) (sheet : is_sheet old.corners ≡ true) (crease : is_crease old.corners (record { kind = kind; segment = s }) ≡ true) where
   -- each piece is on the new crease or on an old one
@@ -51,7 +51,7 @@ IsPattern-with_line old s rules on_sheet size =
     record {
       creases = rules.creases;
       meetings = rules.meetings;
-      lines = all_from_members (λ (u : Segment). IsTrue (is_on_sheet old.corners (stretch_of u))) (placed line_at old.aux s) (λ u m. line_on u (placed_either line_at old.aux s u m));
+      lines = all_from_members (λ (u : Segment). IsTrue (is_on_sheet old.corners (stretch_of u))) (with_in_order line_at old.aux s) (λ u m. line_on u (placed_either line_at old.aux s u m));
       size = size;
       order = (rules.order.0, (line_is_added old s rules).order);
     }

@@ -12,14 +12,15 @@ use Rattle.plane_geometry.specs.Stretch.{Stretch, is_between, is_on}
 use Rattle.plane_geometry.specs.Common.{common_of}
 use Rattle.crease_model.specs.declared.Kind.{Kind}
 use Rattle.crease_model.specs.declared.Piece.{Piece}
-use Rattle.line_split.specs.Cuts.{by_order, with_point, with_point_on, with_ends, is_meeting, with_common, with_meeting, with_piece_cuts, points_or, cuts_from, cuts_of}
-use Rattle.line_split.specs.Lengths.{with_point_length, flat_map_length}
+use Rattle.line_split.specs.Points.{by_order, with_point}
+use Rattle.line_split.specs.Cuts.{with_point_on, with_ends, is_meeting, with_common, with_meeting, with_piece_cuts, points_or, cuts_from, cuts_of}
+use Rattle.line_split.specs.LengthLaws.{with_point_length, flat_map_length}
 use Rattle.line_split.specs.Parts.{inner_points, piece_on, pieces_between, parts_of}
 use Rattle.crease_store.specs.Added.{covers}
-use Rattle.crease_store.specs.Placed.{segment_at}
+use Rattle.crease_store.specs.InOrder.{segment_at}
 use Rattle.crease_store.specs.Adding.{is_touched, rest_of, rests_of, untouched, pieces_with}
 use Rattle.crease_store.proofs.AddedParts.{new_pieces}
-use Rattle.crease_store.proofs.PlacedLaws.{placed_all_length}
+use Rattle.crease_store.proofs.InOrderLaws.{placed_all_length}
 
 -- ---- cut points
 

@@ -1,7 +1,7 @@
 pub mod Members
 pub mod Covered
 pub mod Ascending
-pub mod PlacedLaws
+pub mod InOrderLaws
 pub mod AddedParts
 pub mod Meetings
 pub mod AddLaws
@@ -13,6 +13,8 @@ pub mod Joining
 pub mod Chains
 pub mod MergedPieces
 pub mod Merges
+pub mod Refused
+pub mod Loads
 pub mod DeleteLaws
 pub mod MergeLaws
 pub mod Searching

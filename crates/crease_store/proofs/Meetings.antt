@@ -11,16 +11,16 @@ use Rattle.plane_geometry.specs.Direction.{is_zero, is_positive, is_negative, si
 use Rattle.plane_geometry.specs.SegmentView.{stretch_of}
 use Rattle.plane_geometry.specs.Stored.{IsStretch}
 use Rattle.plane_geometry.specs.Stretch.{Stretch, MeetAtEnds, is_between, is_end, is_on, is_parted, is_crossing, has_same_ends, ends_at_ends}
-use Rattle.plane_geometry.specs.SideLaws.{order_of, turn_of, product_by_zero}
+use Rattle.plane_geometry.specs.SideLaws.{order_of, turn_sign, product_by_zero}
 use Rattle.plane_geometry.specs.StretchLaws.{zero_is, on_parts}
-use Rattle.plane_geometry.specs.CommonPoints.{LiesBetween, between_from_parts, crossing_point, meeting_is, side_on_line}
+use Rattle.plane_geometry.specs.CommonPointLaws.{LiesBetween, between_from_parts, crossing_point, meeting_is, side_on_line}
 use Rattle.crease_model.specs.declared.Kind.{Kind}
 use Rattle.crease_model.specs.declared.Piece.{Piece}
 use Rattle.crease_model.specs.Rules.{AllMeetAtEnds, is_ascending, segments_of}
 use Rattle.plane_geometry.specs.Common.{is_parallel}
 use Rattle.crease_model.specs.PartLaws.{turn_in_line, one_line, ends_lie}
 use Rattle.line_split.specs.Cuts.{is_meeting_point}
-use Rattle.line_split.specs.Members.{Member, member, contained, all_from_members, member_any}
+use Rattle.line_split.specs.MemberLaws.{Member, member, contained, all_from_members, member_any}
 use Rattle.crease_store.specs.Added.{covers, is_vertex, HasAddedKind, IsPieceOfAdd}
 use Rattle.crease_store.proofs.Members.{members_meet}
 use Rattle.crease_store.proofs.Ascending.{ascending_rest, differs_later}
@@ -30,17 +30,17 @@ use Rattle.crease_store.proofs.Covered.{same_segment, inner_on, vertex_at_old}
 
 -- directions that are one, or opposite, do not turn from each other
 tells_parallel : ℕ → ℕ → Bool
-tells_parallel m n = not (nat_eq (m % 8) (n % 8)) || is_zero (turn_of n m)
+tells_parallel m n = not (nat_eq (m % 8) (n % 8)) || is_zero (turn_sign n m)
 
 table_parallel : agree_below (λ m. agree_below (tells_parallel m) (λ _. true) 16) (λ _. true) 16 ≡ true
 unfolding tells_parallel
 table_parallel = refl
 
-parallel_turn : (m n : ℕ) → m < 16 → n < 16 → nat_eq (m % 8) (n % 8) ≡ true → turn_of n m ≡ Zero
+parallel_turn : (m n : ℕ) → m < 16 → n < 16 → nat_eq (m % 8) (n % 8) ≡ true → turn_sign n m ≡ Zero
 unfolding tells_parallel
 parallel_turn m n few_m few_n e =
-    zero_is (turn_of n m)
-    (ap (λ b. not b || is_zero (turn_of n m)) (sym e)
+    zero_is (turn_sign n m)
+    (ap (λ b. not b || is_zero (turn_sign n m)) (sym e)
     ∙ agree_below_at (tells_parallel m) (λ _. true) 16 n (agree_below_at (λ k. agree_below (tells_parallel k) (λ _. true) 16) (λ _. true) 16 m table_parallel few_m) few_n)
 
 -- ---- lines
@@ -77,7 +77,7 @@ module _ (old : List Piece) (kind : Kind) (s : Segment) (meetings : AllMeetAtEnd
       (or_right (is_end v (stretch_of u.segment)) (is_meeting_point v (stretch_of s) (stretch_of u.segment))
       (and_from _ _ (and_from (is_on v (stretch_of s)) (is_on v (stretch_of u.segment)) on_s on_u) (not_from_false _ turned))))
 
-  turn_of_parallel : (u : Segment) → is_parallel (stretch_of s) (stretch_of u) ≡ true → turn_of (stretch_of u).dir (stretch_of s).dir ≡ Zero
+  turn_of_parallel : (u : Segment) → is_parallel (stretch_of s) (stretch_of u) ≡ true → turn_sign (stretch_of u).dir (stretch_of s).dir ≡ Zero
   turn_of_parallel u e = parallel_turn (stretch_of s).dir (stretch_of u).dir (omega (arith, s.dir.in_range)) (omega (arith, u.dir.in_range)) e
 
   -- where they cross, there is a vertex, or they are on one line
@@ -99,7 +99,7 @@ module _ (old : List Piece) (kind : Kind) (s : Segment) (meetings : AllMeetAtEnd
       on_by : (x : Segment) (t : Piece) → covers (stretch_of x) (stretch_of t.segment) ≡ true → LiesBetween point.0 (stretch_of t.segment) → is_on point.0 (stretch_of x) ≡ true
       on_by x t c b = inner_on (stretch_of x) (stretch_of t.segment) point.0 x.stretch t.segment.stretch c b
 
-      parallel_new_old : (u : Piece) → covers (stretch_of s) (stretch_of q.segment) ≡ true → covers (stretch_of u.segment) (stretch_of r.segment) ≡ true → turn_of (stretch_of u.segment).dir (stretch_of s).dir ≡ Zero → ⊥
+      parallel_new_old : (u : Piece) → covers (stretch_of s) (stretch_of q.segment) ≡ true → covers (stretch_of u.segment) (stretch_of r.segment) ≡ true → turn_sign (stretch_of u.segment).dir (stretch_of s).dir ≡ Zero → ⊥
       parallel_new_old u a b turn =
           let l = ends_lie (stretch_of s) (stretch_of q.segment) s.stretch a in
           let m = ends_lie (stretch_of u.segment) (stretch_of r.segment) u.segment.stretch b in
@@ -110,7 +110,7 @@ module _ (old : List Piece) (kind : Kind) (s : Segment) (meetings : AllMeetAtEnd
           (one_line (stretch_of s) (stretch_of u.segment) point.0 (stretch_of q.segment).to s.stretch turn v_s.in_line v_u.in_line l.1.in_line)
           m.0.in_line
 
-      parallel_old_new : (u : Piece) → covers (stretch_of u.segment) (stretch_of q.segment) ≡ true → covers (stretch_of s) (stretch_of r.segment) ≡ true → turn_of (stretch_of u.segment).dir (stretch_of s).dir ≡ Zero → ⊥
+      parallel_old_new : (u : Piece) → covers (stretch_of u.segment) (stretch_of q.segment) ≡ true → covers (stretch_of s) (stretch_of r.segment) ≡ true → turn_sign (stretch_of u.segment).dir (stretch_of s).dir ≡ Zero → ⊥
       parallel_old_new u a b turn =
           let l = ends_lie (stretch_of u.segment) (stretch_of q.segment) u.segment.stretch a in
           let m = ends_lie (stretch_of s) (stretch_of r.segment) s.stretch b in
@@ -119,7 +119,7 @@ module _ (old : List Piece) (kind : Kind) (s : Segment) (meetings : AllMeetAtEnd
           on_line u.segment l.0.in_line l.1.in_line
           (one_line (stretch_of s) (stretch_of u.segment) point.0 (stretch_of r.segment).from s.stretch turn v_s.in_line v_u.in_line m.0.in_line)
 
-      by_direction : (u : Piece) → Member old u → is_on point.0 (stretch_of s) ≡ true → is_on point.0 (stretch_of u.segment) ≡ true → (turn_of (stretch_of u.segment).dir (stretch_of s).dir ≡ Zero → ⊥) → (b : Bool) → is_parallel (stretch_of s) (stretch_of u.segment) ≡ b → ⊥
+      by_direction : (u : Piece) → Member old u → is_on point.0 (stretch_of s) ≡ true → is_on point.0 (stretch_of u.segment) ≡ true → (turn_sign (stretch_of u.segment).dir (stretch_of s).dir ≡ Zero → ⊥) → (b : Bool) → is_parallel (stretch_of s) (stretch_of u.segment) ≡ b → ⊥
       by_direction u at on_s on_u none true f = none (turn_of_parallel u.segment f)
       by_direction u at on_s on_u none false f = no_inner_vertex q point.0 h point.1 (vertex_at_meeting point.0 u at on_s on_u f)
 

@@ -6,7 +6,7 @@ use Rattle.plane_geometry.specs.Stretch.{MeetAtEnds}
 use Rattle.plane_geometry.specs.SegmentView.{stretch_of}
 use Rattle.crease_model.specs.declared.Piece.{Piece}
 use Rattle.crease_model.specs.Rules.{AllMeetAtEnds}
-use Rattle.line_split.specs.Members.{Member, member, contained, all_member}
+use Rattle.line_split.specs.MemberLaws.{Member, member, contained, all_member}
 
 -- ---- any list
 

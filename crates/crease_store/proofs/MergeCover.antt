@@ -1,6 +1,6 @@
 -- Each piece lies on a merged one of its kind, and no vertex of a merged pattern is loose.
 use Rattle.std.proofs.Common.{◌≡◌, ℕ, zero, suc, ◌<◌, ◌≤◌, Bool, true, false, ◌⊎◌, inl, inr, List, [], ◌∷◌, length, refl, sym, ap, subst, ◌∙◌, arith}
-use Rattle.std.specs.Prelude.{filter}
+use Rattle.std.specs.Prelude.{Contains, IsTrue, IsFalse, filter}
 use Rattle.std.proofs.lemmas.Bool.{and_from, true≢false, false_from_ne_true}
 use Rattle.std.proofs.lemmas.List.Sums.{length-filter, count_by-le-length}
 use Rattle.plane_geometry.specs.declared.Point.{Point}
@@ -11,13 +11,13 @@ use Rattle.plane_geometry.specs.SegmentView.{stretch_of, lesser_end, greater_end
 use Rattle.plane_geometry.specs.SegmentLaws.{segment_is}
 use Rattle.crease_model.specs.declared.Piece.{Piece}
 use Rattle.crease_model.specs.View.{PatternView}
-use Rattle.crease_model.specs.Rules.{IsPattern, is_before}
+use Rattle.plane_geometry.specs.Order.{is_before}
+use Rattle.crease_model.specs.Rules.{IsPattern}
 use Rattle.crease_store.specs.Added.{covers}
-use Rattle.crease_store.specs.Merged.{is_loose, merged_from, merged_among, merge_of, IsJoined, IsChain, last_of}
-use Rattle.crease_store.specs.ChangeLaws.{MergeCovers, MergeLeavesNoneLoose}
-use Rattle.line_split.specs.Members.{Member, member, contained}
+use Rattle.crease_store.specs.Merged.{is_loose, merged_from, merged_among, merge_of, IsJoined, IsChain, last_in_chain}
+use Rattle.line_split.specs.MemberLaws.{Member, member, contained}
 use Rattle.crease_store.proofs.Members.{members_meet}
-use Rattle.crease_store.proofs.Ascending.{before_trans, before_irreflexive}
+use Rattle.plane_geometry.specs.OrderLaws.{before_trans, before_irreflexive}
 use Rattle.plane_geometry.specs.StretchLaws.{from_end, to_end}
 use Rattle.crease_store.proofs.Covered.{end_lies}
 use Rattle.crease_store.proofs.Chains.{IsLooseAt, Reaches, same_point, point_self, loose_parts, loose_joined, reaches_itself, reaches_on, one_ending, joined_before, kept-lt, whole_chain}
@@ -80,18 +80,18 @@ beginning_of_chain pieces z m =
 
 -- ---- along a chain
 
-chain_kind : (pieces : List Piece) (p : Piece) (rest : List Piece) → IsChain pieces p rest → p.kind ≡ (last_of p rest).kind
+chain_kind : (pieces : List Piece) (p : Piece) (rest : List Piece) → IsChain pieces p rest → p.kind ≡ (last_in_chain p rest).kind
 chain_kind pieces p [] c = refl
 chain_kind pieces p (q ∷ qs) c = c.0.kind ∙ chain_kind pieces q qs c.1
 
-chain_direction : (pieces : List Piece) (p : Piece) (rest : List Piece) → IsChain pieces p rest → direction_number p.segment ≡ direction_number (last_of p rest).segment
+chain_direction : (pieces : List Piece) (p : Piece) (rest : List Piece) → IsChain pieces p rest → direction_number p.segment ≡ direction_number (last_in_chain p rest).segment
 chain_direction pieces p [] c = refl
 chain_direction pieces p (q ∷ qs) c = c.0.direction ∙ chain_direction pieces q qs c.1
 
 chain_then : (pieces : List Piece) (p z last : Piece) → Reaches pieces p z → Reaches pieces z last → Reaches pieces p last
 chain_then pieces p z last w u = go p w.0 w.1 w.2
   where
-    go : (p : Piece) (rest : List Piece) → IsChain pieces p rest → last_of p rest ≡ z → Reaches pieces p last
+    go : (p : Piece) (rest : List Piece) → IsChain pieces p rest → last_in_chain p rest ≡ z → Reaches pieces p last
     go p [] c e = subst (λ (t : Piece). Reaches pieces t last) (sym e) u
     go p (q ∷ qs) c e = reaches_on pieces p q last c.0 (go q qs c.1 e)
 
@@ -120,10 +120,10 @@ cover_on pieces p q last z h r =
       on = λ v e. second_on_joined p.segment r.along.segment at same v (r.on v e);
     }
 
-cover_segment : (pieces : List Piece) (p z : Piece) (rest after : List Piece) → IsChain pieces p rest → last_of p rest ≡ z → IsChain pieces z after → CoverSegment p (last_of z after) z
+cover_segment : (pieces : List Piece) (p z : Piece) (rest after : List Piece) → IsChain pieces p rest → last_in_chain p rest ≡ z → IsChain pieces z after → CoverSegment p (last_in_chain z after) z
 cover_segment pieces p z [] after c e d =
-    subst (λ (t : Piece). CoverSegment t (last_of z after) z) (sym e) (record { along = chain_segment pieces z after d; on = first_covered pieces z after d })
-cover_segment pieces p z (q ∷ qs) after c e d = cover_on pieces p q (last_of z after) z c.0 (cover_segment pieces q z qs after c.1 e d)
+    subst (λ (t : Piece). CoverSegment t (last_in_chain z after) z) (sym e) (record { along = chain_segment pieces z after d; on = first_covered pieces z after d })
+cover_segment pieces p z (q ∷ qs) after c e d = cover_on pieces p q (last_in_chain z after) z c.0 (cover_segment pieces q z qs after c.1 e d)
 
 -- ---- each piece lies on a merged one
 
@@ -159,7 +159,7 @@ merged_kind : (pieces : List Piece) (z : Piece) (w : IsOnMerged pieces z) → (m
 merged_kind pieces z w =
     w.one.kind ∙ chain_kind pieces w.beginning.first w.beginning.chain.0 w.beginning.chain.1 ∙ ap (λ (t : Piece). t.kind) w.beginning.chain.2
 
-pub merge_covers : MergeCovers
+pub merge_covers : (pattern : PatternView) (z : Piece) → IsPattern pattern → Contains pattern.pieces z → (q : Piece) × Contains (merge_of pattern).pieces q × IsTrue (covers (stretch_of q.segment) (stretch_of z.segment)) × (q.kind ≡ z.kind)
 unfolding merge_of
 merge_covers pattern z rules c =
     let pieces = pattern.pieces in
@@ -277,7 +277,7 @@ module _ (pattern : PatternView) (rules : IsPattern pattern) where
         let same : merged_from old p ≡ a = h.arrives.alone (merged_from old p) (merged_there old rules.meetings old (λ _ n. n) rules.order.0 p u.beginning.there u.beginning.begins) (point_self (greater_end (merged_from old p).segment) v to) in
         same_last z u from_a.first from_a.there m from_a.begins (same ∙ sym from_a.is) last
       where
-        go : is_loose old (greater_end z.segment) ≡ false → {l : Piece} → (rest : List Piece) → IsChain old z rest → last_of z rest ≡ l → z ≡ l
+        go : is_loose old (greater_end z.segment) ≡ false → {l : Piece} → (rest : List Piece) → IsChain old z rest → last_in_chain z rest ≡ l → z ≡ l
         go ends [] c e = e
         go ends (y ∷ ys) c e = absurd (true≢false (sym c.0.loose ∙ ends))
 
@@ -296,7 +296,7 @@ module _ (pattern : PatternView) (rules : IsPattern pattern) where
         loose_from old rules.order.0 v one_a.last from_b.first (reached_there old from_a.first one_a.last from_a.there one_a.whole.chain) from_b.there a_to b_from
         (λ z m e. elim (ends_at v z.segment e) [ inl f ↦ inr (leaving z m f) | inr f ↦ inl (arriving z m f) ]) direction kind
 
-pub merge_leaves_none_loose : MergeLeavesNoneLoose
+pub merge_leaves_none_loose : (pattern : PatternView) (v : Point) → IsPattern pattern → IsFalse (is_loose (merge_of pattern).pieces v)
 unfolding merge_of old new
 merge_leaves_none_loose pattern v rules =
     let after = merged_among pattern.pieces pattern.pieces in

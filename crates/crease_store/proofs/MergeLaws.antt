@@ -17,17 +17,17 @@ use Rattle.plane_geometry.specs.StretchLaws.{ends_order, to_in_line, along_sign,
 use Rattle.crease_model.specs.declared.Kind.{Kind}
 use Rattle.crease_model.specs.declared.Kind.TheVariants.{Edge, Mountain, Valley, Aux}
 use Rattle.crease_model.specs.declared.Piece.{Piece}
-use Rattle.crease_model.specs.Rules.{is_ascending, segments_of}
+use Rattle.crease_model.specs.Rules.{IsPattern, is_ascending, segments_of}
 use Rattle.crease_model.specs.View.{PatternView}
-use Rattle.crease_store.specs.Merged.{is_same_kind, are_alike, begins_at, arrives_at, single, only_from, only_to, is_loose}
-use Rattle.crease_store.specs.ChangeLaws.{direction_from, IsLoose, LooseIsTwo, MergeJoinsChains, MergedIsOne}
-use Rattle.line_split.specs.Members.{Member, member, contained, filter_member, member_filter}
+use Rattle.crease_store.specs.Merged.{is_same_kind, are_alike, begins_at, arrives_at, single, only_from, only_to, is_loose, merge_of, direction_from, IsLoose, IsMerged}
+use Rattle.crease_store.specs.MergedLaws.{LooseIsTwo, MergedIsOne}
+use Rattle.line_split.specs.MemberLaws.{Member, member, contained, filter_member, member_filter}
 use Rattle.crease_store.proofs.Ascending.{one_ascending, filter_ascends}
 use Rattle.crease_store.proofs.Chains.{loose_parts, same_point, point_self}
 use Rattle.crease_store.proofs.MergedPieces.{end_points}
 use Rattle.crease_store.proofs.Merges.{merge_is}
 
-pub merge_joins_chains : MergeJoinsChains
+pub merge_joins_chains : (pattern : PatternView) → IsPattern pattern → IsMerged pattern (merge_of pattern)
 merge_joins_chains pattern rules = merge_is pattern rules
 
 -- ---- one pattern only

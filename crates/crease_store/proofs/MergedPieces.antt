@@ -15,8 +15,8 @@ use Rattle.plane_geometry.specs.StretchLaws.{order_from, turned_zero, end_parts,
 use Rattle.crease_model.specs.declared.Piece.{Piece}
 use Rattle.crease_model.specs.Sheet.{Side, place_of, is_outside, is_on_segment, holds_both_ends, is_within_side, sides_of}
 use Rattle.crease_model.specs.Rules.{AllMeetAtEnds, is_crease, is_crease_kind, is_on_sheet}
-use Rattle.crease_store.specs.Merged.{is_loose, last_piece, joined_to, merged_from, IsJoined, IsChain, last_of}
-use Rattle.line_split.specs.Members.{Member, member, any_member, member_any}
+use Rattle.crease_store.specs.Merged.{is_loose, last_piece, joined_to, merged_from, IsJoined, IsChain, last_in_chain}
+use Rattle.line_split.specs.MemberLaws.{Member, member, any_member, member_any}
 use Rattle.crease_store.proofs.Covered.{inner_on}
 use Rattle.crease_store.proofs.Members.{members_meet}
 use Rattle.crease_store.proofs.Chains.{Reaches, IsWhole, point_self, loose_parts, loose_joined, reaches_itself, reaches_on, last_step, one_beginning, nothing_before, whole_chain}
@@ -30,7 +30,7 @@ pub record ChainSegment (p last : Piece) : Type 0 where
   pub to : greater_end segment ≡ greater_end last.segment
   pub direction : direction_number segment ≡ direction_number p.segment
 
-unfoldable pub chain_segment : (pieces : List Piece) (p : Piece) (rest : List Piece) → IsChain pieces p rest → ChainSegment p (last_of p rest)
+unfoldable pub chain_segment : (pieces : List Piece) (p : Piece) (rest : List Piece) → IsChain pieces p rest → ChainSegment p (last_in_chain p rest)
 chain_segment pieces p [] c = record { segment = p.segment; from = refl; to = refl; direction = refl }
 chain_segment pieces p (q ∷ qs) c =
     let r = chain_segment pieces q qs c.1 in
@@ -76,7 +76,7 @@ record IsOnPiece (pieces : List Piece) (p last : Piece) (v : Position) : Type 0 
   pub after : Reaches pieces piece last
   pub on : is_on v (stretch_of piece.segment) ≡ true
 
-on_chain : (pieces : List Piece) (p : Piece) (rest : List Piece) (c : IsChain pieces p rest) (v : Position) → is_on v (stretch_of (chain_segment pieces p rest c).segment) ≡ true → IsOnPiece pieces p (last_of p rest) v
+on_chain : (pieces : List Piece) (p : Piece) (rest : List Piece) (c : IsChain pieces p rest) (v : Position) → is_on v (stretch_of (chain_segment pieces p rest c).segment) ≡ true → IsOnPiece pieces p (last_in_chain p rest) v
 unfolding chain_segment
 on_chain pieces p [] c v e = record { piece = p; before = reaches_itself pieces p; after = reaches_itself pieces p; on = e }
 on_chain pieces p (q ∷ qs) c v e =
@@ -112,7 +112,7 @@ first_within pieces p q one side e = go (segment_of side.start side.end) e
     chain : Reaches pieces p one.last
     chain = one.whole.chain
 
-    s : ChainSegment p (last_of p chain.0)
+    s : ChainSegment p (last_in_chain p chain.0)
     s = chain_segment pieces p chain.0 chain.1
 
     same : q.segment ≡ s.segment
@@ -172,7 +172,7 @@ module _ (pieces : List Piece) (p q : Piece) (one : IsOne pieces p q) (begins : 
         here : x ≡ one.last → is_end v (stretch_of q.segment) ≡ true
         here f = end_to v (stretch_of q.segment) (ap (λ (t : Point). order_of v (position_of t)) (one.to ∙ ap (λ (t : Piece). greater_end t.segment) (sym f)) ∙ e)
 
-        at_last : is_loose pieces (greater_end x.segment) ≡ false → (rest : List Piece) → IsChain pieces x rest → last_of x rest ≡ one.last → is_end v (stretch_of q.segment) ≡ true
+        at_last : is_loose pieces (greater_end x.segment) ≡ false → (rest : List Piece) → IsChain pieces x rest → last_in_chain x rest ≡ one.last → is_end v (stretch_of q.segment) ≡ true
         at_last f [] c g = here g
         at_last f (z ∷ zs) c g = absurd (true≢false (sym c.0.loose ∙ f))
 
@@ -220,7 +220,7 @@ module _ (pieces : List Piece) (p q : Piece) (one : IsOne pieces p q) (begins : 
 pub reaches_then : (pieces : List Piece) (p x y : Piece) → Reaches pieces p x → IsJoined pieces x y → Reaches pieces p y
 reaches_then pieces p x y w h = go p w.0 w.1 w.2
   where
-    go : (p : Piece) (rest : List Piece) → IsChain pieces p rest → last_of p rest ≡ x → Reaches pieces p y
+    go : (p : Piece) (rest : List Piece) → IsChain pieces p rest → last_in_chain p rest ≡ x → Reaches pieces p y
     go p [] c e = reaches_on pieces p y y (subst (λ (t : Piece). IsJoined pieces t y) (sym e) h) (reaches_itself pieces y)
     go p (z ∷ zs) c e = reaches_on pieces p z y c.0 (go z zs c.1 e)
 

@@ -6,14 +6,14 @@ use Rattle.plane_geometry.specs.declared.Segment.{Segment}
 use Rattle.plane_geometry.specs.Stretch.{MeetAtEnds, has_same_ends, is_end}
 use Rattle.plane_geometry.specs.SegmentView.{stretch_of, lesser_end, greater_end}
 use Rattle.plane_geometry.specs.SegmentLaws.{segment_is}
-use Rattle.plane_geometry.specs.CommonPoints.{meeting_is}
+use Rattle.plane_geometry.specs.CommonPointLaws.{meeting_is}
 use Rattle.crease_model.specs.declared.Piece.{Piece}
 use Rattle.crease_model.specs.View.{PatternView}
 use Rattle.crease_model.specs.Rules.{IsPattern, AllMeetAtEnds, is_ascending, is_crease, segments_of}
-use Rattle.crease_store.specs.Placed.{segment_at, placed}
+use Rattle.crease_store.specs.InOrder.{segment_at, with_in_order}
 use Rattle.crease_store.specs.Merged.{is_loose, merged_from, merged_among, merge_of, IsMerged, IsPieceOfMerge}
-use Rattle.line_split.specs.Members.{Member, member, contained, all_member, all_from_members}
-use Rattle.crease_store.proofs.PlacedLaws.{placed_ascends, placed_new, placed_old, placed_either, placed_length}
+use Rattle.line_split.specs.MemberLaws.{Member, member, contained, all_member, all_from_members}
+use Rattle.crease_store.proofs.InOrderLaws.{placed_ascends, placed_new, placed_old, placed_either, placed_length}
 use Rattle.crease_store.proofs.Ascending.{ascending_rest, differs_later}
 use Rattle.crease_store.proofs.Members.{piece_is}
 use Rattle.plane_geometry.specs.StretchLaws.{from_end, to_end}
@@ -44,7 +44,7 @@ from_merged pieces (p ∷ ps) z m = go (is_loose pieces (lesser_end p.segment)) 
     later : IsFrom pieces ps z → IsFrom pieces (p ∷ ps) z
     later w = record { first = w.first; there = inr w.there; begins = w.begins; is = w.is }
 
-    go : (b : Bool) → is_loose pieces (lesser_end p.segment) ≡ b → Member (cond b (merged_among pieces ps) (placed segment_at (merged_among pieces ps) (merged_from pieces p))) z → (Member (merged_among pieces ps) z → IsFrom pieces (p ∷ ps) z) → IsFrom pieces (p ∷ ps) z
+    go : (b : Bool) → is_loose pieces (lesser_end p.segment) ≡ b → Member (cond b (merged_among pieces ps) (with_in_order segment_at (merged_among pieces ps) (merged_from pieces p))) z → (Member (merged_among pieces ps) z → IsFrom pieces (p ∷ ps) z) → IsFrom pieces (p ∷ ps) z
     go true e n rest = rest n
     go false e n rest =
         elim (placed_either segment_at (merged_among pieces ps) (merged_from pieces p) z n) [ inl f ↦ record { first = p; there = inl refl; begins = e; is = f } | inr k ↦ rest k ]
@@ -54,7 +54,7 @@ fewer_merged pieces [] = omega arith
 fewer_merged pieces (p ∷ ps) =
     let rest = fewer_merged pieces ps in
     let more = placed_length segment_at (merged_among pieces ps) (merged_from pieces p) in
-    elim (is_loose pieces (lesser_end p.segment)) as (λ b. length (cond b (merged_among pieces ps) (placed segment_at (merged_among pieces ps) (merged_from pieces p))) ≤ length (p ∷ ps))
+    elim (is_loose pieces (lesser_end p.segment)) as (λ b. length (cond b (merged_among pieces ps) (with_in_order segment_at (merged_among pieces ps) (merged_from pieces p))) ≤ length (p ∷ ps))
     [ true ↦ omega (arith, rest) | false ↦ omega (arith, rest, more) ]
 
 module _ (pieces : List Piece) (meetings : AllMeetAtEnds pieces) where
@@ -73,22 +73,22 @@ module _ (pieces : List Piece) (meetings : AllMeetAtEnds pieces) where
   merged_there (x ∷ xs) inside up p m begins =
       go (is_loose pieces (lesser_end x.segment)) refl m (λ n. merged_there xs (λ z k. inside z (inr k)) (ascending_rest segment_at x xs up) p n begins)
     where
-      later : is_loose pieces (lesser_end x.segment) ≡ false → Member xs p → Member (placed segment_at (merged_among pieces xs) (merged_from pieces x)) (merged_from pieces p) ⊎ (segment_at (merged_from pieces x) ≡ segment_at (merged_from pieces p)) → Member (placed segment_at (merged_among pieces xs) (merged_from pieces x)) (merged_from pieces p)
+      later : is_loose pieces (lesser_end x.segment) ≡ false → Member xs p → Member (with_in_order segment_at (merged_among pieces xs) (merged_from pieces x)) (merged_from pieces p) ⊎ (segment_at (merged_from pieces x) ≡ segment_at (merged_from pieces p)) → Member (with_in_order segment_at (merged_among pieces xs) (merged_from pieces x)) (merged_from pieces p)
       later e n (inl k) = k
       later e n (inr same) =
           absurd (differ x p (inside x (inl refl)) (inside p (inr n)) e begins (λ f. differs_later segment_at x xs p up n (ap segment_at f)) same)
 
-      go : (b : Bool) → is_loose pieces (lesser_end x.segment) ≡ b → Member (x ∷ xs) p → (Member xs p → Member (merged_among pieces xs) (merged_from pieces p)) → Member (cond b (merged_among pieces xs) (placed segment_at (merged_among pieces xs) (merged_from pieces x))) (merged_from pieces p)
+      go : (b : Bool) → is_loose pieces (lesser_end x.segment) ≡ b → Member (x ∷ xs) p → (Member xs p → Member (merged_among pieces xs) (merged_from pieces p)) → Member (cond b (merged_among pieces xs) (with_in_order segment_at (merged_among pieces xs) (merged_from pieces x))) (merged_from pieces p)
       go true e (inl at) rest = absurd (true≢false (sym e ∙ ap (λ (t : Piece). is_loose pieces (lesser_end t.segment)) at ∙ begins))
       go true e (inr n) rest = rest n
-      go false e (inl at) rest = subst (λ (t : Piece). Member (placed segment_at (merged_among pieces xs) (merged_from pieces x)) (merged_from pieces t)) at (placed_new segment_at (merged_among pieces xs) (merged_from pieces x))
+      go false e (inl at) rest = subst (λ (t : Piece). Member (with_in_order segment_at (merged_among pieces xs) (merged_from pieces x)) (merged_from pieces t)) at (placed_new segment_at (merged_among pieces xs) (merged_from pieces x))
       go false e (inr n) rest = later e n (placed_old segment_at (merged_among pieces xs) (merged_from pieces x) (merged_from pieces p) (rest n))
 
   ascending_merged : (ps : List Piece) → is_ascending (segments_of (merged_among pieces ps)) ≡ true
   ascending_merged [] = refl
   ascending_merged (p ∷ ps) =
       let rest = ascending_merged ps in
-      elim (is_loose pieces (lesser_end p.segment)) as (λ b. is_ascending (segments_of (cond b (merged_among pieces ps) (placed segment_at (merged_among pieces ps) (merged_from pieces p)))) ≡ true)
+      elim (is_loose pieces (lesser_end p.segment)) as (λ b. is_ascending (segments_of (cond b (merged_among pieces ps) (with_in_order segment_at (merged_among pieces ps) (merged_from pieces p)))) ≡ true)
       [ true ↦ rest | false ↦ placed_ascends segment_at (merged_among pieces ps) (merged_from pieces p) rest ]
 
   merged_meet : (q r : Piece) → Member (merged_among pieces pieces) q → Member (merged_among pieces pieces) r → (q.segment ≡ r.segment → ⊥) → MeetAtEnds (stretch_of q.segment) (stretch_of r.segment)

@@ -27,18 +27,21 @@ use Rattle.crease_model.specs.declared.Piece.{Piece}
 use Rattle.crease_model.specs.PartLaws.{direction_is_along, sheet_turns}
 use Rattle.crease_model.specs.Sheet.{Side, sides_of, side_direction, is_on_segment, holds_both_ends, is_within_side, is_sheet}
 use Rattle.crease_model.specs.View.{PatternView, empty_on}
-use Rattle.crease_model.specs.Rules.{IsPattern, AllMeetAtEnds, is_crease, is_crease_kind, is_on_sheet, is_before, is_ascending, size_of}
+use Rattle.crease_model.specs.Rules.{IsPattern, AllMeetAtEnds, is_crease, is_crease_kind, is_on_sheet, is_ascending, size_of, most_pieces}
+use Rattle.plane_geometry.specs.Order.{is_before}
 use Rattle.line_split.specs.Cuts.{cuts_of}
 use Rattle.line_split.specs.FaultLaws.{fault_is_first}
-use Rattle.line_split.specs.Members.{Member, member, contained, all_member, all_from_members, member_any}
-use Rattle.crease_store.specs.declared.faults.StoreFault.{StoreFault}
-use Rattle.crease_store.specs.declared.faults.StoreFault.TheVariants.{EdgeOffBorder, OutsideSheet, OnBorder, TooManyPieces}
+use Rattle.line_split.specs.MemberLaws.{Member, member, contained, all_member, all_from_members, member_any}
+use Rattle.crease_store.specs.declared.faults.StoreRefusal.{StoreRefusal}
+use Rattle.crease_store.specs.declared.faults.StoreRefusal.TheVariants.{EdgeOffBorder, OutsideSheet, OnBorder, TooManyPieces}
 use Rattle.crease_store.specs.declared.loading.LoadLine.{LoadLine}
 use Rattle.crease_store.specs.Added.{IsCreaseAdded, IsLineAdded}
 use Rattle.crease_store.specs.Adding.{with_crease, with_line, if_it_fits, crease_cut, crease_added, segment_added, added_between, add_of}
 use Rattle.crease_store.specs.Loading.{after_line, load_from, load_of}
-use Rattle.crease_store.specs.Placed.{segment_at, line_at}
-use Rattle.crease_store.specs.OwnLines.{PlainLine, plain_line, side_line, piece_line, auxiliary_line, own_lines, OwnLinesAreLoaded}
+use Rattle.crease_store.specs.InOrder.{segment_at, line_at}
+use Rattle.crease_model.specs.OwnLines.{PlainLine, side_line, piece_line, auxiliary_line, own_lines}
+use Rattle.crease_store.specs.OwnLines.{plain_line, OwnLinesAreLoaded}
+use Rattle.crease_store.proofs.Refused.{between_points, added_as_crease}
 use Rattle.crease_store.proofs.AddLaws.{lines_ascend, crease_is_added, line_is_added, crease_is_one, line_is_one}
 use Rattle.crease_store.proofs.Covered.{end_lies}
 use Rattle.crease_store.proofs.Members.{member_left, member_right, member_cases}
@@ -47,7 +50,7 @@ use Rattle.crease_store.proofs.OwnPieces.{ends_in_range, piece_from_member, memb
 -- ---- lines added one after another
 
 -- the pattern once the line is added
-abbrev after : PatternView → PlainLine → Result PatternView StoreFault
+abbrev after : PatternView → PlainLine → Result PatternView StoreRefusal
 after old line = add_of old line.kind line.from line.to
 
 -- each line is accepted, and they lead from one pattern to the other
@@ -64,28 +67,6 @@ loaded_from [] old new e = ap Ok e
 loaded_from (line ∷ lines) old new w = ap (λ r. after_line line.number r (load_from lines)) w.1 ∙ loaded_from lines w.0 new w.2
 
 -- ---- edges
-
--- there is a segment between points where one is in a direction from the other
-between_points : (p q : Point) (n : ℕ) → n < 16 → is_along n (position_of p) (position_of q) ≡ true → (s : Segment) × (segment_of p q ≡ Some s)
-between_points p q n few along = go (is_lt (compare_positions (position_of p) (position_of q))) refl (order_of (position_of p) (position_of q)) refl
-  where
-    go : (b : Bool) → is_lt (compare_positions (position_of p) (position_of q)) ≡ b → (t : Sgn) → order_of (position_of p) (position_of q) ≡ t → (s : Segment) × (segment_of p q ≡ Some s)
-    go true e t f =
-        let s : Segment = record { from = p; to = q; dir = record { number = n; in_range = omega (arith, few) }; stretch = (e, along) } in
-        (s, segment_of-ends s)
-    go false e Pos f = let clash : true ≡ false = sym (ap is_positive f) ∙ sym (before_is (position_of p) (position_of q)) ∙ e in absurd (cc)
-    go false e Zero f =
-        let same = point_is p q f in
-        let there = subst (λ (t : Point). is_along n (position_of p) (position_of t) ≡ true) (sym same) along in
-        let back = along_back n (position_of p) (position_of p) few ∙ there in
-        let number = along_unique (opposite_number n) n (position_of p) (position_of p) (omega arith) few back there in
-        absurd (omega (arith, number, few))
-    go false e Neg f =
-        let less : is_lt (compare_positions (position_of q) (position_of p)) ≡ true = before_is (position_of q) (position_of p) ∙ ap is_positive (order_turned (position_of p) (position_of q) ∙ ap opposite_sign f) in
-        let s : Segment = record { from = q; to = p; dir = record { number = opposite_number n; in_range = omega arith }; stretch = (less, along_back n (position_of p) (position_of q) few ∙ along) } in
-        let turned : segment_of p q ≡ segment_from q p = ap (λ b. cond b (segment_from p q) (segment_from q p)) e in
-        let back : segment_of q p ≡ segment_from q p = ap (λ b. cond b (segment_from q p) (segment_from p q)) less in
-        (s, turned ∙ sym back ∙ segment_of-ends s)
 
 edge_adds : (old : PatternView) (side : Side) → Member (sides_of old.corners) side → is_some (side_direction side) ≡ true → after old (side_line side) ≡ Ok old
 unfolding add_of
@@ -106,8 +87,8 @@ edges_add old (side ∷ sides) there e =
 
 -- ---- the front of a pattern
 
-fits : (p : PatternView) → size_of p ≤ 2000 → if_it_fits p ≡ Ok p
-fits p few = ap (λ b. cond b (Ok p) (Err (TooManyPieces (size_of p)))) (le-leb (size_of p) 2000 few)
+fits : (p : PatternView) → size_of p ≤ most_pieces → if_it_fits p ≡ Ok p
+fits p few = ap (λ b. cond b (Ok p) (Err (TooManyPieces (size_of p)))) (le-leb (size_of p) most_pieces few)
 
 front_meets : (xs ys : List Piece) → AllMeetAtEnds (xs ++ ys) → AllMeetAtEnds xs
 front_meets [] ys h = tt
@@ -206,17 +187,11 @@ module _ (corners : List Point) (done : List Piece) (q : Piece) (rules : IsPatte
       ∙ ap (λ b. cond b (Err OnBorder) cut) crease_parts.2
       ∙ cut_accepted (cuts_of q.segment done) refl
 
-  added_as_crease : (kind : Kind) → is_crease_kind kind ≡ true → segment_added old kind q.segment ≡ crease_added old kind q.segment
-  added_as_crease Mountain e = refl
-  added_as_crease Valley e = refl
-  added_as_crease Edge e = absurd (cc)
-  added_as_crease Aux e = absurd (cc)
-
   piece_adds : after old (piece_line q) ≡ Ok new
   unfolding add_of
   piece_adds =
       ap (added_between old q.kind (lesser_end q.segment) (greater_end q.segment)) (segment_of-ends q.segment)
-      ∙ added_as_crease q.kind crease_parts.0 ∙ crease_accepted
+      ∙ added_as_crease old q.kind q.segment crease_parts.0 ∙ crease_accepted
 
 pieces_add : (corners : List Point) (done rest : List Piece) → IsPattern (pattern_of corners (done ++ rest) []) → Adds (map piece_line rest) (pattern_of corners done []) (pattern_of corners (done ++ rest) [])
 pieces_add corners done [] rules = sym (ap (λ ps. pattern_of corners ps []) (append-nil done))

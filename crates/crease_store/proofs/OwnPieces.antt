@@ -7,12 +7,12 @@ use Rattle.plane_geometry.specs.Position.{Position}
 use Rattle.plane_geometry.specs.SegmentView.{stretch_of}
 use Rattle.plane_geometry.specs.Stretch.{Stretch, MeetAtEnds, is_between, is_end, is_on}
 use Rattle.plane_geometry.specs.StretchLaws.{turned_zero, end_parts, from_end, to_end}
-use Rattle.plane_geometry.specs.CommonPoints.{between_parts, between_no_end, end_same}
+use Rattle.plane_geometry.specs.CommonPointLaws.{between_parts, between_no_end, end_same}
 use Rattle.crease_model.specs.declared.Kind.{Kind}
 use Rattle.crease_model.specs.declared.Piece.{Piece}
 use Rattle.crease_model.specs.Rules.{AllMeetAtEnds}
 use Rattle.line_split.specs.Cuts.{MeetsOutOfRange}
-use Rattle.line_split.specs.Members.{Member, member, contained}
+use Rattle.line_split.specs.MemberLaws.{Member, member, contained}
 use Rattle.crease_store.specs.Added.{covers, is_vertex, HasAddedKind, IsPieceOfAdd}
 use Rattle.crease_store.proofs.Covered.{new_end, old_end, meeting, vertex_parts, vertex_at_new, vertex_at_old, end_lies, covers_self, same_segment}
 use Rattle.crease_store.proofs.Members.{member_left, member_right, member_cases, piece_is, members_meet}

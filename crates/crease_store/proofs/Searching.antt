@@ -20,8 +20,8 @@ use Rattle.plane_geometry.specs.StretchLaws.{before_is, same_is, positive_is, th
 use Rattle.crease_model.specs.declared.Piece.{Piece}
 use Rattle.crease_model.specs.Rules.{is_ascending, segments_of}
 use Rattle.crease_store.specs.Merged.{begins_at, arrives_at, single, only_from, only_to}
-use Rattle.crease_store.specs.Rising.{beginning_of, arrival_of, comes_before, is_rising, first_alone, AreSorted}
-use Rattle.line_split.specs.Members.{Member, member, contained, filter_member, member_filter}
+use Rattle.crease_store.specs.Rising.{beginning_of, arrival_of, comes_before, is_sorted_by, first_alone, AreSorted}
+use Rattle.line_split.specs.MemberLaws.{Member, member, contained, filter_member, member_filter}
 use Rattle.crease_store.proofs.Ascending.{first_before, before_begins, ascending_rest}
 
 -- ---- the order of points
@@ -80,20 +80,20 @@ abbrev kept : Bool → Bool → Piece → Piece → List Piece → List Piece
 kept a b x y rest = cond a (x ∷ cond b (y ∷ rest) rest) (cond b (y ∷ rest) rest)
 
 module _ (at : Piece → Point) where
-  rising_rest : (p : Piece) (ps : List Piece) → is_rising at (p ∷ ps) ≡ true → is_rising at ps ≡ true
+  rising_rest : (p : Piece) (ps : List Piece) → is_sorted_by at (p ∷ ps) ≡ true → is_sorted_by at ps ≡ true
   rising_rest p [] up = refl
-  rising_rest p (q ∷ qs) up = (and_parts (not (comes_before (at q) (at p))) (is_rising at (q ∷ qs)) up).1
+  rising_rest p (q ∷ qs) up = (and_parts (not (comes_before (at q) (at p))) (is_sorted_by at (q ∷ qs)) up).1
 
-  rising_next : (p q : Piece) (qs : List Piece) → is_rising at (p ∷ q ∷ qs) ≡ true → comes_before (at q) (at p) ≡ false
-  rising_next p q qs up = not-true (comes_before (at q) (at p)) (and_parts (not (comes_before (at q) (at p))) (is_rising at (q ∷ qs)) up).0
+  rising_next : (p q : Piece) (qs : List Piece) → is_sorted_by at (p ∷ q ∷ qs) ≡ true → comes_before (at q) (at p) ≡ false
+  rising_next p q qs up = not-true (comes_before (at q) (at p)) (and_parts (not (comes_before (at q) (at p))) (is_sorted_by at (q ∷ qs)) up).0
 
   -- no element comes before the first one
-  none_before : (p : Piece) (ps : List Piece) → is_rising at (p ∷ ps) ≡ true → (k : ℕ) (d : Piece) → k < length ps → comes_before (at (get_or ps k d)) (at p) ≡ false
+  none_before : (p : Piece) (ps : List Piece) → is_sorted_by at (p ∷ ps) ≡ true → (k : ℕ) (d : Piece) → k < length ps → comes_before (at (get_or ps k d)) (at p) ≡ false
   none_before p [] up k d few = absurd (omega arith)
   none_before p (q ∷ qs) up zero d few = rising_next p q qs up
   none_before p (q ∷ qs) up (suc k) d few = not_after_chain (at p) (at q) (at (get_or qs k d)) (rising_next p q qs up) (none_before q qs (rising_rest p (q ∷ qs) up) k d (omega arith))
 
-  pub rising_parts : (v : Point) (xs : List Piece) → is_rising at xs ≡ true → IsPartitionedBy (λ p. comes_before (at p) v) xs
+  pub rising_parts : (v : Point) (xs : List Piece) → is_sorted_by at xs ≡ true → IsPartitionedBy (λ p. comes_before (at p) v) xs
   rising_parts v [] up i j d low high e = absurd (omega arith)
   rising_parts v (x ∷ xs) up zero zero d low high e = e
   rising_parts v (x ∷ xs) up zero (suc j) d low high e = before_through (at x) (at (get_or xs j d)) v (none_before x xs up j d (omega arith)) e
@@ -104,7 +104,7 @@ module _ (at : Piece → Point) where
   is_at v p = is_same_position (position_of (at p)) (position_of v)
 
   -- nothing of a list is at v where its first piece comes after it
-  none_at : (v : Point) (x : Piece) (xs : List Piece) → is_rising at (x ∷ xs) ≡ true → comes_before (at x) v ≡ false → is_at v x ≡ false → filter (is_at v) xs ≡ []
+  none_at : (v : Point) (x : Piece) (xs : List Piece) → is_sorted_by at (x ∷ xs) ≡ true → comes_before (at x) v ≡ false → is_at v x ≡ false → filter (is_at v) xs ≡ []
   none_at v x [] up e f = refl
   none_at v x (y ∷ ys) up e f =
       let next = rising_next x y ys up in
@@ -112,7 +112,7 @@ module _ (at : Piece → Point) where
       let not_before : comes_before (at y) v ≡ false = false_from_ne_true (comes_before (at y) v) (λ h. true≢false (sym (before_through (at x) (at y) v next h) ∙ e)) in
       ap (λ b. cond b (y ∷ filter (is_at v) ys) (filter (is_at v) ys)) not_at ∙ none_at v y ys (rising_rest x (y ∷ ys) up) not_before not_at
 
-  single_first : (v : Point) (xs : List Piece) → is_rising at xs ≡ true → ((d : Piece) → 0 < length xs → comes_before (at (get_or xs 0 d)) v ≡ false) → single (filter (is_at v) xs) ≡ first_alone (is_at v) xs
+  single_first : (v : Point) (xs : List Piece) → is_sorted_by at xs ≡ true → ((d : Piece) → 0 < length xs → comes_before (at (get_or xs 0 d)) v ≡ false) → single (filter (is_at v) xs) ≡ first_alone (is_at v) xs
   single_first v [] up start = refl
   single_first v (x ∷ []) up start = elim (is_at v x) as (λ b. single (cond b (x ∷ []) []) ≡ cond (b && not false) (Some x) None) [ true ↦ refl | false ↦ refl ]
   single_first v (x ∷ y ∷ ys) up start = go (is_at v x) (is_at v y) refl refl
@@ -132,7 +132,7 @@ module _ (at : Piece → Point) where
       go false true e f = absurd (true≢false (sym f ∙ later_not_same (at x) (at y) v first e (rising_next x y ys up)))
       go false false e f = is false false e f (ap single (none_at v y ys (rising_rest x (y ∷ ys) up) second f))
 
-  pub single_found : (v : Point) (xs : List Piece) (i : ℕ) → is_rising at xs ≡ true → i ≤ length xs → IsPartitionPoint (λ p. comes_before (at p) v ≡ true) (λ p. comes_before (at p) v ≡ false) xs i → single (filter (is_at v) xs) ≡ first_alone (is_at v) (drop i xs)
+  pub single_found : (v : Point) (xs : List Piece) (i : ℕ) → is_sorted_by at xs ≡ true → i ≤ length xs → IsPartitionPoint (λ p. comes_before (at p) v ≡ true) (λ p. comes_before (at p) v ≡ false) xs i → single (filter (is_at v) xs) ≡ first_alone (is_at v) (drop i xs)
   single_found v xs zero up few parts = single_first v xs up (λ d some. parts.1 0 d (omega arith) some)
   single_found v [] (suc i) up few parts = absurd (omega arith)
   single_found v (x ∷ xs) (suc i) up few parts =
@@ -140,11 +140,11 @@ module _ (at : Piece → Point) where
       ∙ single_found v xs i (rising_rest x xs up) (omega arith) (λ k d low high. parts.0 (suc k) d (omega arith) (omega arith), λ k d low high. parts.1 (suc k) d (omega arith) (omega arith))
 
   -- from a list sorted by that point
-  rising_from : (xs : List Piece) → IsSortedBy (λ p q. comes_before (at p) (at q)) xs → is_rising at xs ≡ true
+  rising_from : (xs : List Piece) → IsSortedBy (λ p q. comes_before (at p) (at q)) xs → is_sorted_by at xs ≡ true
   rising_from [] sorted = refl
   rising_from (x ∷ []) sorted = refl
   rising_from (x ∷ y ∷ ys) sorted =
-      and_from (not (comes_before (at y) (at x))) (is_rising at (y ∷ ys)) (not_from_false _ (sorted 0 x (omega arith) (omega arith))) (rising_from (y ∷ ys) (λ k d low high.
+      and_from (not (comes_before (at y) (at x))) (is_sorted_by at (y ∷ ys)) (not_from_false _ (sorted 0 x (omega arith) (omega arith))) (rising_from (y ∷ ys) (λ k d low high.
       let next : suc k + 1 ≡ suc (k + 1) = omega arith in
       subst (λ n. comes_before (at (get_or (x ∷ y ∷ ys) n d)) (at (get_or (y ∷ ys) k d)) ≡ false) next (sorted (suc k) d (omega arith) (omega arith))))
 
@@ -152,15 +152,15 @@ module _ (at : Piece → Point) where
 pub rising_by_key : (at : Piece → Point) {F : Type 0} {g : Mut F (Bor Piece × Unit {0}) Point} {f : F} (xs : List Piece)
     → ((key : Piece → Point) → ComputesKey g key f → IsSortedBy (λ p q. comes_before (key p) (key q)) xs)
     → ((a : Bor Piece × Unit {0}) (r : Point) (f' : F) → Called g f a r f' → (r ≡ at a.0.now) × (f' ≡ f))
-    → is_rising at xs ≡ true
+    → is_sorted_by at xs ≡ true
 rising_by_key at {g = g} {f = f} xs sorted h = rising_from at xs (sorted at (always_returns_same g (λ a r. r ≡ at a.0.now) f h))
 
 -- pieces in order rise by their lesser ends
-pub ascending_rises : (ps : List Piece) → is_ascending (segments_of ps) ≡ true → is_rising beginning_of ps ≡ true
+pub ascending_rises : (ps : List Piece) → is_ascending (segments_of ps) ≡ true → is_sorted_by beginning_of ps ≡ true
 ascending_rises [] up = refl
 ascending_rises (p ∷ []) up = refl
 ascending_rises (p ∷ q ∷ qs) up =
-    and_from (not (comes_before (beginning_of q) (beginning_of p))) (is_rising beginning_of (q ∷ qs))
+    and_from (not (comes_before (beginning_of q) (beginning_of p))) (is_sorted_by beginning_of (q ∷ qs))
     (not_from_false _ (before_begins p.segment q.segment (first_before (λ (t : Piece). t.segment) p (q ∷ qs) q up (inl refl))))
     (ascending_rises (q ∷ qs) (ascending_rest (λ (t : Piece). t.segment) p (q ∷ qs) up))
 
@@ -184,10 +184,10 @@ single_permuted test xs ys h =
 
 -- ---- sorted ends
 
-pub only_from_found : (pieces : List Piece) (v : Point) (i : ℕ) → is_rising beginning_of pieces ≡ true → i ≤ length pieces → IsPartitionPoint (λ p. comes_before (beginning_of p) v ≡ true) (λ p. comes_before (beginning_of p) v ≡ false) pieces i → only_from pieces v ≡ first_alone (begins_at v) (drop i pieces)
+pub only_from_found : (pieces : List Piece) (v : Point) (i : ℕ) → is_sorted_by beginning_of pieces ≡ true → i ≤ length pieces → IsPartitionPoint (λ p. comes_before (beginning_of p) v ≡ true) (λ p. comes_before (beginning_of p) v ≡ false) pieces i → only_from pieces v ≡ first_alone (begins_at v) (drop i pieces)
 only_from_found pieces v i up few parts = single_found beginning_of v pieces i up few parts
 
-pub only_to_found : (pieces : List Piece) (v : Point) (i : ℕ) → is_rising arrival_of pieces ≡ true → i ≤ length pieces → IsPartitionPoint (λ p. comes_before (arrival_of p) v ≡ true) (λ p. comes_before (arrival_of p) v ≡ false) pieces i → only_to pieces v ≡ first_alone (arrives_at v) (drop i pieces)
+pub only_to_found : (pieces : List Piece) (v : Point) (i : ℕ) → is_sorted_by arrival_of pieces ≡ true → i ≤ length pieces → IsPartitionPoint (λ p. comes_before (arrival_of p) v ≡ true) (λ p. comes_before (arrival_of p) v ≡ false) pieces i → only_to pieces v ≡ first_alone (arrives_at v) (drop i pieces)
 only_to_found pieces v i up few parts = single_found arrival_of v pieces i up few parts
 
 pub only_to_same : (pieces arrivals : List Piece) (v : Point) → AreSorted pieces arrivals → only_to arrivals v ≡ only_to pieces v

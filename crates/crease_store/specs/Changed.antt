@@ -1,5 +1,5 @@
 -- Taking a piece away, giving it another kind, and clearing.
-use Rattle.std.specs.Prelude.{Bool, ◌&&◌, not, List, Ok, Err, map, filter, if◌then◌else◌}
+use Rattle.std.specs.Prelude.{◌≡◌, ◌⊎◌, ◌↔◌, Bool, ◌&&◌, not, List, Ok, Err, Contains, IsTrue, map, filter, if◌then◌else◌}
 use Rattle.std.specs.List.{list_any}
 use Rattle.std.specs.declared.result.Result.{Result}
 use Rattle.plane_geometry.specs.declared.Point.{Point}
@@ -9,9 +9,10 @@ use Rattle.plane_geometry.specs.Ends.{lesser_of, greater_of}
 use Rattle.plane_geometry.specs.SegmentView.{lesser_end, greater_end}
 use Rattle.crease_model.specs.declared.Kind.{Kind}
 use Rattle.crease_model.specs.declared.Piece.{Piece}
+use Rattle.crease_model.specs.Rules.{is_ascending, segments_of}
 use Rattle.crease_model.specs.View.{PatternView, empty_on}
-use Rattle.crease_store.specs.declared.faults.StoreFault.{StoreFault}
-use Rattle.crease_store.specs.declared.faults.StoreFault.TheVariants.{NoSuchPiece}
+use Rattle.crease_store.specs.declared.faults.StoreRefusal.{StoreRefusal}
+use Rattle.crease_store.specs.declared.faults.StoreRefusal.TheVariants.{NoSuchPiece}
 
 -- p and q are its ends, in either order
 abbrev pub has_ends : Point → Point → Segment → Bool
@@ -35,7 +36,7 @@ abbrev pub without_line : PatternView → Point → Point → PatternView
 without_line pattern p q = record pattern { aux = filter (λ s. not (has_ends p q s)) pattern.aux }
 
 -- without the piece between p and q, else without the auxiliary line between them
-unfoldable pub delete_of : PatternView → Point → Point → Result PatternView StoreFault
+unfoldable pub delete_of : PatternView → Point → Point → Result PatternView StoreRefusal
 delete_of pattern p q =
     if has_piece pattern.pieces p q then Ok (without_piece pattern p q)
     else if has_line pattern.aux p q then Ok (without_line pattern p q)
@@ -48,9 +49,50 @@ abbrev pub with_kind : PatternView → Kind → Point → Point → PatternView
 with_kind pattern kind p q = record pattern { pieces = map (in_kind kind p q) pattern.pieces }
 
 -- with the piece between p and q in this kind
-unfoldable pub set_of : PatternView → Kind → Point → Point → Result PatternView StoreFault
+unfoldable pub set_of : PatternView → Kind → Point → Point → Result PatternView StoreRefusal
 set_of pattern kind p q = if has_piece pattern.pieces p q then Ok (with_kind pattern kind p q) else Err NoSuchPiece
 
 -- the same sheet with nothing on it
 abbrev pub clear_of : PatternView → PatternView
 clear_of pattern = empty_on pattern.corners
+
+-- ---- the same in words
+
+-- p and q are its ends
+abbrev pub HasEnds : Point → Point → Segment → Type 0
+HasEnds p q s = ((lesser_end s ≡ p) × (greater_end s ≡ q)) ⊎ ((lesser_end s ≡ q) × (greater_end s ≡ p))
+
+abbrev pub HasPiece : PatternView → Point → Point → Type 0
+HasPiece pattern p q = (z : Piece) × Contains pattern.pieces z × HasEnds p q z.segment
+
+abbrev pub HasLine : PatternView → Point → Point → Type 0
+HasLine pattern p q = (s : Segment) × Contains pattern.aux s × HasEnds p q s
+
+-- the piece between p and q is gone, and nothing else
+pub record IsPieceTaken (old : PatternView) (p q : Point) (new : PatternView) : Type 0 where
+  pub there : HasPiece old p q
+  pub corners : new.corners ≡ old.corners
+  pub aux : new.aux ≡ old.aux
+  pub order : IsTrue (is_ascending (segments_of new.pieces))
+  pub pieces : (z : Piece) → Contains new.pieces z ↔ (Contains old.pieces z × (¬ HasEnds p q z.segment))
+
+-- there is no piece between p and q; the auxiliary line between them is gone, and nothing else
+pub record IsLineTaken (old : PatternView) (p q : Point) (new : PatternView) : Type 0 where
+  pub no_piece : ¬ HasPiece old p q
+  pub there : HasLine old p q
+  pub corners : new.corners ≡ old.corners
+  pub pieces : new.pieces ≡ old.pieces
+  pub order : IsTrue (is_ascending new.aux)
+  pub aux : (s : Segment) → Contains new.aux s ↔ (Contains old.aux s × (¬ HasEnds p q s))
+
+abbrev pub IsDeleted : PatternView → Point → Point → PatternView → Type 0
+IsDeleted old p q new = IsPieceTaken old p q new ⊎ IsLineTaken old p q new
+
+-- the piece between p and q has this kind, and nothing else is changed
+pub record IsKindSet (old : PatternView) (kind : Kind) (p q : Point) (new : PatternView) : Type 0 where
+  pub there : HasPiece old p q
+  pub corners : new.corners ≡ old.corners
+  pub aux : new.aux ≡ old.aux
+  pub segments : segments_of new.pieces ≡ segments_of old.pieces
+  pub here : (z : Piece) → Contains new.pieces z → HasEnds p q z.segment → z.kind ≡ kind
+  pub others : (z : Piece) → (¬ HasEnds p q z.segment) → Contains new.pieces z ↔ Contains old.pieces z

@@ -1,11 +1,12 @@
 pub mod Answer
-pub mod Placed
+pub mod InOrder
 pub mod Added
+pub mod AddRefusals
 pub mod Adding
 pub mod Changed
 pub mod Merged
 pub mod Rising
-pub mod ChangeLaws
+pub mod MergedLaws
 pub mod Laws
 pub mod Loading
 pub mod OwnLines

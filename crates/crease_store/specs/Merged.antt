@@ -1,15 +1,18 @@
 -- Merging: pieces of one direction and kind that are joined at vertices where nothing else ends become one piece.
-use Rattle.std.specs.Prelude.{◌≡◌, ◌↔◌, ⊤, Contains, IsTrue, IsFalse, ℕ, zero, suc, Bool, true, false, ◌&&◌, nat_eq, List, [], ◌∷◌, length, filter, Option, None, Some, unwrap_or, if◌then◌else◌}
+use Rattle.std.specs.Prelude.{◌≡◌, ◌≢◌, ◌⊎◌, ◌↔◌, ⊤, Contains, IsTrue, IsFalse, ℕ, zero, suc, Bool, true, false, ◌&&◌, nat_eq, List, [], ◌∷◌, length, filter, Option, None, Some, unwrap_or, if◌then◌else◌}
 use Rattle.plane_geometry.specs.declared.Point.{Point}
+use Rattle.plane_geometry.specs.declared.Segment.{Segment}
 use Rattle.plane_geometry.specs.Position.{position_of, is_same_position}
+use Rattle.plane_geometry.specs.DirectionLaws.{opposite_number}
+use Rattle.plane_geometry.specs.Stretch.{is_end}
 use Rattle.plane_geometry.specs.SegmentOf.{segment_of}
-use Rattle.plane_geometry.specs.SegmentView.{lesser_end, greater_end, direction_number}
+use Rattle.plane_geometry.specs.SegmentView.{stretch_of, lesser_end, greater_end, direction_number}
 use Rattle.crease_model.specs.declared.Kind.{Kind}
 use Rattle.crease_model.specs.declared.Kind.TheVariants.{Edge, Mountain, Valley, Aux}
 use Rattle.crease_model.specs.declared.Piece.{Piece}
 use Rattle.crease_model.specs.Rules.{is_ascending, segments_of}
 use Rattle.crease_model.specs.View.{PatternView}
-use Rattle.crease_store.specs.Placed.{segment_at, placed}
+use Rattle.crease_store.specs.InOrder.{segment_at, with_in_order}
 
 abbrev pub is_same_kind : Kind → Kind → Bool
 is_same_kind Edge Edge = true
@@ -72,7 +75,7 @@ abbrev pub merged_among : List Piece → List Piece → List Piece
 merged_among pieces [] = []
 merged_among pieces (p ∷ ps) =
     if is_loose pieces (lesser_end p.segment) then merged_among pieces ps
-    else placed segment_at (merged_among pieces ps) (merged_from pieces p)
+    else with_in_order segment_at (merged_among pieces ps) (merged_from pieces p)
 
 -- all loose vertices are taken away at once; the auxiliary lines and the sheet stay
 unfoldable pub merge_of : PatternView → PatternView
@@ -94,9 +97,9 @@ abbrev pub IsChain : List Piece → Piece → List Piece → Type 0
 IsChain pieces p [] = ⊤
 IsChain pieces p (q ∷ qs) = IsJoined pieces p q × IsChain pieces q qs
 
-abbrev pub last_of : Piece → List Piece → Piece
-last_of p [] = p
-last_of p (q ∷ qs) = last_of q qs
+abbrev pub last_in_chain : Piece → List Piece → Piece
+last_in_chain p [] = p
+last_in_chain p (q ∷ qs) = last_in_chain q qs
 
 -- q is a chain as one piece, and neither of its ends is loose
 pub record IsPieceOfMerge (old : List Piece) (q : Piece) : Type 0 where
@@ -105,13 +108,31 @@ pub record IsPieceOfMerge (old : List Piece) (q : Piece) : Type 0 where
   pub there : Contains old first
   pub chain : IsChain old first rest
   pub from : lesser_end q.segment ≡ lesser_end first.segment
-  pub to : greater_end q.segment ≡ greater_end (last_of first rest).segment
+  pub to : greater_end q.segment ≡ greater_end (last_in_chain first rest).segment
   pub kind : q.kind ≡ first.kind
   pub begins : IsFalse (is_loose old (lesser_end first.segment))
-  pub ends : IsFalse (is_loose old (greater_end (last_of first rest).segment))
+  pub ends : IsFalse (is_loose old (greater_end (last_in_chain first rest).segment))
 
 pub record IsMerged (old new : PatternView) : Type 0 where
   pub corners : new.corners ≡ old.corners
   pub aux : new.aux ≡ old.aux
   pub order : IsTrue (is_ascending (segments_of new.pieces))
   pub pieces : (q : Piece) → Contains new.pieces q ↔ IsPieceOfMerge old.pieces q
+
+-- the direction in which s leaves v, one of its ends
+abbrev pub direction_from : Point → Segment → ℕ
+direction_from v s =
+    if is_same_position (position_of v) (position_of (lesser_end s)) then direction_number s else opposite_number (direction_number s)
+
+-- exactly two pieces end at v, in opposite directions and of one kind
+pub record IsLoose (pieces : List Piece) (v : Point) : Type 0 where
+  pub one : Piece
+  pub other : Piece
+  pub one_there : Contains pieces one
+  pub other_there : Contains pieces other
+  pub two : one ≢ other
+  pub one_ends : IsTrue (is_end (position_of v) (stretch_of one.segment))
+  pub other_ends : IsTrue (is_end (position_of v) (stretch_of other.segment))
+  pub no_third : (z : Piece) → Contains pieces z → IsTrue (is_end (position_of v) (stretch_of z.segment)) → (z ≡ one) ⊎ (z ≡ other)
+  pub opposite : direction_from v one.segment ≡ opposite_number (direction_from v other.segment)
+  pub kind : one.kind ≡ other.kind

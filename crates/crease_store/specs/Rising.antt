@@ -17,10 +17,10 @@ abbrev pub comes_before : Point → Point → Bool
 comes_before p q = is_lt (compare_positions (position_of p) (position_of q))
 
 -- no point comes before the one in front of it
-abbrev pub is_rising : (Piece → Point) → List Piece → Bool
-is_rising at [] = true
-is_rising at (p ∷ []) = true
-is_rising at (p ∷ q ∷ ps) = not (comes_before (at q) (at p)) && is_rising at (q ∷ ps)
+abbrev pub is_sorted_by : (Piece → Point) → List Piece → Bool
+is_sorted_by at [] = true
+is_sorted_by at (p ∷ []) = true
+is_sorted_by at (p ∷ q ∷ ps) = not (comes_before (at q) (at p)) && is_sorted_by at (q ∷ ps)
 
 abbrev pub first_passes : (Piece → Bool) → List Piece → Bool
 first_passes test [] = false
@@ -33,6 +33,6 @@ first_alone test (p ∷ ps) = if test p && not (first_passes test ps) then Some 
 
 -- arrivals holds the pieces by their greater ends
 pub record AreSorted (pieces arrivals : List Piece) : Type 0 where
-  pub by_beginning : IsTrue (is_rising beginning_of pieces)
-  pub by_arrival : IsTrue (is_rising arrival_of arrivals)
+  pub by_beginning : IsTrue (is_sorted_by beginning_of pieces)
+  pub by_arrival : IsTrue (is_sorted_by arrival_of arrivals)
   pub same : IsPermutation pieces arrivals

@@ -1,25 +1,24 @@
 //! Adding a line.
 
-ghost use Rattle.std.specs.Prelude.{◌≡◌, ◌++◌, Ok, IfOk, OnOk, IsTrue};
+ghost use Rattle.std.specs.Prelude.{◌≡◌, ◌↔◌, ℕ, ◌++◌, length, take, Ok, Some, IfOk, IsOk, IsErrOf, OnOk, OnErr, IsTrue};
+ghost use Rattle.crease_store.specs.declared.faults.StoreRefusal.{StoreRefusal};
 ghost use Rattle.std.specs.Bool.{IsFalse};
 ghost use Rattle.plane_geometry.specs.SegmentView.{stretch_of};
 ghost use Rattle.crease_model.specs.Rules.{IsPattern, is_crease_kind, is_on_sheet};
 ghost use Rattle.crease_model.specs.Sheet.{is_sheet, is_outside, is_within_side};
 ghost use Rattle.line_split.specs.Cuts.{cuts_of};
-ghost use Rattle.crease_store.specs.Added.{covers};
-ghost use Rattle.crease_store.specs.Placed.{line_at, placed};
-ghost use Rattle.crease_store.specs.Adding.{add_of, segment_added, edge_added, line_added, crease_added, pieces_with, with_crease, with_line, untouched, uncovered, rest_of, rests_of, if_it_fits, segment_fault};
-ghost use Rattle.crease_store.specs.Answer.{IsAnswer};
+ghost use Rattle.crease_store.specs.Added.{covers, IsAddedBetween};
+ghost use Rattle.crease_store.specs.InOrder.{line_at, with_in_order};
+ghost use Rattle.crease_store.specs.Adding.{add_of, segment_added, edge_added, line_added, crease_added, pieces_with, with_crease, with_line, untouched, uncovered, rest_of, rests_of, if_it_fits, segment_refusal};
+ghost use Rattle.crease_store.specs.AddRefusals.{HaveNoDirection, IsEdgeOffBorder, IsOutsideSheet, IsCreaseOnBorder, IsCreaseOutOfRange, GivesTooMany, IsRefusedFor};
+ghost use Rattle.crease_store.specs.Answer.{IsAnswer, HasMemory, refusal_of};
 
 use crate::faults::StoreFault;
 use crate::placing::{place_line, place_pieces};
-use crease_model::{Kind, Pattern, Piece, Place, Sheet};
+use crease_model::{Kind, MOST_PIECES, Pattern, Piece, Place, Sheet};
 use line_split::{SplitFault, cut_at, cut_points};
 use plane_geometry::{Point, Segment, on_segment, share_point};
 use std::alloc::{AllocError, Global};
-
-/// The most pieces and auxiliary lines of a pattern.
-const MOST: usize = 2000;
 
 fn outside(place: Place) -> bool
     ensures { result ≡ is_outside place }
@@ -118,26 +117,6 @@ fn cut_in(
     Ok(all)
 }
 
-// A pattern of these pieces on the sheet of another, with its auxiliary lines.
-fn with_pieces(pattern: &Pattern, alloc: Global, pieces: Vec<Piece>) -> Result<Pattern, AllocError>
-    requires { IsPattern (record { corners = pattern.now.corners; pieces = pieces.items; aux = pattern.now.aux }) }
-    ensures { IfOk result (λ new. new ≡ record { corners = pattern.now.corners; pieces = pieces.items; aux = pattern.now.aux }) }
-{
-    let sheet = pattern.sheet().copy()?;
-    let aux = Vec::from_slice(alloc, pattern.aux())?;
-    Ok(Pattern::of(sheet, pieces, aux))
-}
-
-// A pattern of these auxiliary lines on the sheet of another, with its pieces.
-fn with_lines(pattern: &Pattern, alloc: Global, aux: Vec<Segment>) -> Result<Pattern, AllocError>
-    requires { IsPattern (record { corners = pattern.now.corners; pieces = pattern.now.pieces; aux = aux.items }) }
-    ensures { IfOk result (λ new. new ≡ record { corners = pattern.now.corners; pieces = pattern.now.pieces; aux = aux.items }) }
-{
-    let sheet = pattern.sheet().copy()?;
-    let pieces = Vec::from_slice(alloc, pattern.pieces())?;
-    Ok(Pattern::of(sheet, pieces, aux))
-}
-
 fn add_cut(
     alloc: Global,
     pattern: &Pattern,
@@ -152,19 +131,14 @@ fn add_cut(
     requires cuts { cuts_of s.now pattern.now.pieces ≡ Ok cuts.now }
     ensures { IsAnswer result (if_it_fits (with_crease pattern.now kind s.now cuts.now)) }
 {
-    let Ok(pieces) = cut_in(alloc, pattern.pieces(), kind, s, cuts) else {
-        return Err(StoreFault::Memory);
-    };
+    let pieces = cut_in(alloc, pattern.pieces(), kind, s, cuts)?;
     let size = pieces.as_slice().len() + pattern.aux().len();
-    if size > MOST {
+    if size > MOST_PIECES {
         return Err(StoreFault::TooManyPieces {
             pieces: size as u32,
         });
     }
-    match with_pieces(pattern, alloc, pieces) {
-        Ok(new) => Ok(new),
-        Err(_) => Err(StoreFault::Memory),
-    }
+    Ok(pattern.with_pieces(pieces)?)
 }
 
 fn add_crease(
@@ -191,7 +165,7 @@ fn add_crease(
 
 // The auxiliary lines with one more.
 fn lines_with(alloc: Global, pattern: &Pattern, s: &Segment) -> Result<Vec<Segment>, AllocError>
-    ensures { IfOk result (λ lines. lines.items ≡ placed line_at pattern.now.aux s.now) }
+    ensures { IfOk result (λ lines. lines.items ≡ with_in_order line_at pattern.now.aux s.now) }
 {
     let mut lines = Vec::with_capacity(alloc, pattern.aux().len() + 1)?;
     lines.extend_from_slice(pattern.aux())?;
@@ -205,19 +179,14 @@ fn add_line(alloc: Global, pattern: &Pattern, s: &Segment) -> Result<Pattern, St
     if !on_sheet(pattern.sheet(), s) {
         return Err(StoreFault::OutsideSheet);
     }
-    let Ok(lines) = lines_with(alloc, pattern, s) else {
-        return Err(StoreFault::Memory);
-    };
+    let lines = lines_with(alloc, pattern, s)?;
     let size = pattern.pieces().len() + lines.as_slice().len();
-    if size > MOST {
+    if size > MOST_PIECES {
         return Err(StoreFault::TooManyPieces {
             pieces: size as u32,
         });
     }
-    match with_lines(pattern, alloc, lines) {
-        Ok(new) => Ok(new),
-        Err(_) => Err(StoreFault::Memory),
-    }
+    Ok(pattern.with_aux(lines)?)
 }
 
 fn add_edge(pattern: &Pattern, s: &Segment) -> Result<Pattern, StoreFault>
@@ -226,10 +195,7 @@ fn add_edge(pattern: &Pattern, s: &Segment) -> Result<Pattern, StoreFault>
     if !pattern.sheet().on_border(s) {
         return Err(StoreFault::EdgeOffBorder);
     }
-    match pattern.copy() {
-        Ok(new) => Ok(new),
-        Err(_) => Err(StoreFault::Memory),
-    }
+    Ok(pattern.copy()?)
 }
 
 fn add_segment(
@@ -249,7 +215,7 @@ fn add_segment(
 
 // Why there is no segment between two points.
 fn no_segment(from: &Point, to: &Point) -> StoreFault
-    ensures { result ≡ segment_fault from.now to.now }
+    ensures { refusal_of result ≡ Some (segment_refusal from.now to.now) }
 {
     if from.cmp(to).is_eq() {
         StoreFault::ZeroLength
@@ -258,10 +224,9 @@ fn no_segment(from: &Point, to: &Point) -> StoreFault
     }
 }
 
-/// The pattern with one more line: a crease, which cuts and is cut and takes the place of what it covers, or an auxiliary
-/// line. An edge of the sheet changes nothing.
+// The pattern with the segment between two points, if there is one.
 #[tactic(auto, unfolding(crate::specs::Adding::add_of))]
-pub fn add(
+fn add_between(
     alloc: Global,
     pattern: &Pattern,
     kind: Kind,
@@ -274,4 +239,34 @@ pub fn add(
         Ok(s) => add_segment(alloc, pattern, kind, &s),
         Err(_) => Err(no_segment(from, to)),
     }
+}
+
+/// The pattern with one more line: a crease, which cuts and is cut and takes the place of what it covers, or an auxiliary
+/// line. An edge of the sheet changes nothing.
+pub fn add(
+    alloc: Global,
+    pattern: &Pattern,
+    kind: Kind,
+    from: &Point,
+    to: &Point,
+) -> Result<Pattern, StoreFault>
+    ensures added { IfOk result (λ new. IsAddedBetween pattern.now kind from.now to.now new) }
+    ensures zero_length { IsErrOf result StoreFault.ZeroLength ↔ (HasMemory result × (from.now ≡ to.now)) }
+    ensures bad_direction { IsErrOf result StoreFault.BadDirection ↔ (HasMemory result × HaveNoDirection from.now to.now) }
+    ensures edge_off_border { IsErrOf result StoreFault.EdgeOffBorder
+        ↔ (HasMemory result × IsEdgeOffBorder pattern.now kind from.now to.now) }
+    ensures outside_sheet { IsErrOf result StoreFault.OutsideSheet
+        ↔ (HasMemory result × IsOutsideSheet pattern.now kind from.now to.now) }
+    ensures on_border { IsErrOf result StoreFault.OnBorder
+        ↔ (HasMemory result × IsCreaseOnBorder pattern.now kind from.now to.now) }
+    ensures crossing { (n : ℕ) → IsErrOf result (StoreFault.Crossing n)
+        ↔ (HasMemory result × IsCreaseOutOfRange pattern.now kind from.now to.now n) }
+    ensures too_many { (n : ℕ) → IsErrOf result (StoreFault.TooManyPieces n)
+        ↔ (HasMemory result × GivesTooMany pattern.now kind from.now to.now n) }
+    ensures accepted { ((refusal : StoreRefusal) → ¬ IsRefusedFor pattern.now kind from.now to.now refusal) → HasMemory result → IsOk result }
+    ensures exact { IsAnswer result (add_of pattern.now kind from.now to.now) }
+{
+    // tells the rules that the pattern keeps
+    let _ = pattern.pieces();
+    add_between(alloc, pattern, kind, from, to)
 }

@@ -1,10 +1,10 @@
 //! Taking a piece away, giving it another kind, and clearing.
 
-ghost use Rattle.std.specs.Prelude.{◌≡◌, Ok, Err, IfOk, IsTrue, not, map, filter};
+ghost use Rattle.std.specs.Prelude.{◌≡◌, ◌↔◌, [], Ok, Err, IfOk, IsErrOf, IsTrue, not, map, filter};
 ghost use Rattle.plane_geometry.specs.Ends.{lesser_of, greater_of};
 ghost use Rattle.crease_model.specs.Rules.{is_crease_kind};
-ghost use Rattle.crease_store.specs.Changed.{has_ends, is_piece_between, has_piece, has_line, without_piece, without_line, delete_of, in_kind, with_kind, set_of, clear_of};
-ghost use Rattle.crease_store.specs.Answer.{IsAnswer};
+ghost use Rattle.crease_store.specs.Changed.{has_ends, is_piece_between, has_piece, has_line, without_piece, without_line, delete_of, in_kind, with_kind, set_of, clear_of, HasPiece, HasLine, IsDeleted, IsKindSet};
+ghost use Rattle.crease_store.specs.Answer.{IsAnswer, HasMemory};
 
 use crate::faults::StoreFault;
 use crease_model::{Kind, Pattern, Piece};
@@ -124,10 +124,7 @@ fn delete_piece(
 ) -> Result<Pattern, AllocError>
     ensures { IfOk result (λ new. new ≡ without_piece pattern.now from.now to.now) }
 {
-    let pieces = pieces_without(alloc, pattern.pieces(), from, to)?;
-    let aux = Vec::from_slice(alloc, pattern.aux())?;
-    let sheet = pattern.sheet().copy()?;
-    Ok(Pattern::of(sheet, pieces, aux))
+    pattern.with_pieces(pieces_without(alloc, pattern.pieces(), from, to)?)
 }
 
 fn delete_line(
@@ -138,10 +135,7 @@ fn delete_line(
 ) -> Result<Pattern, AllocError>
     ensures { IfOk result (λ new. new ≡ without_line pattern.now from.now to.now) }
 {
-    let pieces = Vec::from_slice(alloc, pattern.pieces())?;
-    let aux = lines_without(alloc, pattern.aux(), from, to)?;
-    let sheet = pattern.sheet().copy()?;
-    Ok(Pattern::of(sheet, pieces, aux))
+    pattern.with_aux(lines_without(alloc, pattern.aux(), from, to)?)
 }
 
 fn set_piece(
@@ -154,15 +148,12 @@ fn set_piece(
     requires { IsTrue (is_crease_kind kind) }
     ensures { IfOk result (λ new. new ≡ with_kind pattern.now kind from.now to.now) }
 {
-    let pieces = pieces_in_kind(alloc, pattern.pieces(), kind, from, to)?;
-    let aux = Vec::from_slice(alloc, pattern.aux())?;
-    let sheet = pattern.sheet().copy()?;
-    Ok(Pattern::of(sheet, pieces, aux))
+    pattern.with_pieces(pieces_in_kind(alloc, pattern.pieces(), kind, from, to)?)
 }
 
-/// The pattern without the piece between two points, in either order, else without the auxiliary line between them.
+// Without the piece between two points, else without the auxiliary line between them.
 #[tactic(auto, unfolding(crate::specs::Changed::delete_of))]
-pub fn delete(
+fn delete_between(
     alloc: Global,
     pattern: &Pattern,
     from: &Point,
@@ -171,23 +162,34 @@ pub fn delete(
     ensures { IsAnswer result (delete_of pattern.now from.now to.now) }
 {
     if has_piece(pattern.pieces(), from, to) {
-        match delete_piece(alloc, pattern, from, to) {
-            Ok(new) => Ok(new),
-            Err(_) => Err(StoreFault::Memory),
-        }
+        Ok(delete_piece(alloc, pattern, from, to)?)
     } else if has_line(pattern.aux(), from, to) {
-        match delete_line(alloc, pattern, from, to) {
-            Ok(new) => Ok(new),
-            Err(_) => Err(StoreFault::Memory),
-        }
+        Ok(delete_line(alloc, pattern, from, to)?)
     } else {
         Err(StoreFault::NoSuchPiece)
     }
 }
 
-/// The pattern with the piece between two points, in either order, turned into a mountain or a valley.
+/// The pattern without the piece between two points, in either order, else without the auxiliary line between them.
+pub fn delete(
+    alloc: Global,
+    pattern: &Pattern,
+    from: &Point,
+    to: &Point,
+) -> Result<Pattern, StoreFault>
+    ensures deleted { IfOk result (λ new. IsDeleted pattern.now from.now to.now new) }
+    ensures no_such_piece { IsErrOf result StoreFault.NoSuchPiece
+        ↔ (HasMemory result × ((¬ HasPiece pattern.now from.now to.now) × (¬ HasLine pattern.now from.now to.now))) }
+    ensures exact { IsAnswer result (delete_of pattern.now from.now to.now) }
+{
+    // tells the rules that the pattern keeps
+    let _ = pattern.pieces();
+    delete_between(alloc, pattern, from, to)
+}
+
+// With the piece between two points in this kind.
 #[tactic(auto, unfolding(crate::specs::Changed::set_of))]
-pub fn set_kind(
+fn set_between(
     alloc: Global,
     pattern: &Pattern,
     kind: Kind,
@@ -198,21 +200,32 @@ pub fn set_kind(
     ensures { IsAnswer result (set_of pattern.now kind from.now to.now) }
 {
     if has_piece(pattern.pieces(), from, to) {
-        match set_piece(alloc, pattern, kind, from, to) {
-            Ok(new) => Ok(new),
-            Err(_) => Err(StoreFault::Memory),
-        }
+        Ok(set_piece(alloc, pattern, kind, from, to)?)
     } else {
         Err(StoreFault::NoSuchPiece)
     }
 }
 
+/// The pattern with the piece between two points, in either order, turned into a mountain or a valley.
+pub fn set_kind(
+    alloc: Global,
+    pattern: &Pattern,
+    kind: Kind,
+    from: &Point,
+    to: &Point,
+) -> Result<Pattern, StoreFault>
+    requires { IsTrue (is_crease_kind kind) }
+    ensures set { IfOk result (λ new. IsKindSet pattern.now kind from.now to.now new) }
+    ensures no_such_piece { IsErrOf result StoreFault.NoSuchPiece ↔ (HasMemory result × (¬ HasPiece pattern.now from.now to.now)) }
+    ensures exact { IsAnswer result (set_of pattern.now kind from.now to.now) }
+{
+    set_between(alloc, pattern, kind, from, to)
+}
+
 /// The same sheet with nothing on it.
 pub fn clear(pattern: &Pattern) -> Result<Pattern, StoreFault>
-    ensures { IsAnswer result (Ok (clear_of pattern.now)) }
+    ensures cleared { IfOk result (λ new. (new.corners ≡ pattern.now.corners) × (new.pieces ≡ []) × (new.aux ≡ [])) }
+    ensures exact { IsAnswer result (Ok (clear_of pattern.now)) }
 {
-    match pattern.sheet().copy() {
-        Ok(sheet) => Ok(Pattern::empty(sheet)),
-        Err(_) => Err(StoreFault::Memory),
-    }
+    Ok(Pattern::empty(pattern.sheet().copy()?))
 }

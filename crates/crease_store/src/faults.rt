@@ -1,5 +1,9 @@
 //! Why a pattern was not changed.
 
+ghost use Rattle.std.specs.Prelude.{◌≡◌};
+ghost use Rattle.crease_store.specs.Answer.{refusal_of};
+
+use std::alloc::AllocError;
 use thiserror::Error;
 
 /// Why a pattern was not changed. Numbers of pieces count from 1.
@@ -23,4 +27,46 @@ pub enum StoreFault {
     NoSuchPiece,
     #[error("out of memory")]
     Memory,
+}
+
+/// Why a change is refused, however much memory there is. The variants are those of `StoreFault` but for want of memory.
+#[derive(Clone, Copy, Debug, PartialEq, Eq)]
+pub enum StoreRefusal {
+    ZeroLength,
+    BadDirection,
+    EdgeOffBorder,
+    OutsideSheet,
+    OnBorder,
+    Crossing { piece: u32 },
+    TooManyPieces { pieces: u32 },
+    NoSuchPiece,
+}
+
+impl From<AllocError> for StoreFault {
+    ghost use Rattle.crease_store.specs.declared.faults.StoreFault.TheVariants.{Memory};
+
+    ghost from_gives = { λ _ e. e ≡ Memory };
+
+    fn from(_e: AllocError) -> StoreFault {
+        StoreFault::Memory
+    }
+}
+
+impl StoreFault {
+    /// The refusal; None for want of memory, which is none.
+    pub fn refusal(self) -> Option<StoreRefusal>
+        ensures { result ≡ refusal_of self }
+    {
+        match self {
+            StoreFault::ZeroLength => Some(StoreRefusal::ZeroLength),
+            StoreFault::BadDirection => Some(StoreRefusal::BadDirection),
+            StoreFault::EdgeOffBorder => Some(StoreRefusal::EdgeOffBorder),
+            StoreFault::OutsideSheet => Some(StoreRefusal::OutsideSheet),
+            StoreFault::OnBorder => Some(StoreRefusal::OnBorder),
+            StoreFault::Crossing { piece } => Some(StoreRefusal::Crossing { piece }),
+            StoreFault::TooManyPieces { pieces } => Some(StoreRefusal::TooManyPieces { pieces }),
+            StoreFault::NoSuchPiece => Some(StoreRefusal::NoSuchPiece),
+            StoreFault::Memory => None,
+        }
+    }
 }

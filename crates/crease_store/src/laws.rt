@@ -1,12 +1,7 @@
 //! What adding and loading give. These functions do nothing: each contract is a law of the patterns.
 
-ghost use Rattle.crease_store.specs.Laws.{AcceptedIsAdded, AddedMeet, AddedIsOne};
+ghost use Rattle.crease_store.specs.Laws.{AddedMeet, AddedIsOne};
 ghost use Rattle.crease_store.specs.OwnLines.{OwnLinesAreLoaded};
-
-/// Where a line between two points is accepted, the segment between them is added.
-pub fn accepted_is_added()
-    ensures { AcceptedIsAdded }
-{}
 
 /// Once a segment is added, the pieces meet at ends alone again, whatever it cuts.
 #[tactic(auto, using(crate::proofs::AddLaws::added_meet))]

@@ -1,16 +1,16 @@
 //! Loading lines.
 
-ghost use Rattle.std.specs.Prelude.{◌≡◌, Ok, Err, drop};
+ghost use Rattle.std.specs.Prelude.{◌≡◌, Ok, Err, IfOk, IfErr, IfSome, IsSome, IsNone, drop};
 ghost use Rattle.crease_model.specs.View.{empty_on};
 ghost use Rattle.crease_store.specs.Adding.{add_of};
-ghost use Rattle.crease_store.specs.Answer.{IsAnswer};
-ghost use Rattle.crease_store.specs.Loading.{load_of, load_from, after_line, refused_line, IsLoadAnswer};
+ghost use Rattle.crease_store.specs.Answer.{IsAnswer, refusal_of};
+ghost use Rattle.crease_store.specs.Loading.{load_of, load_from, after_line, IsLoadAnswer, IsLoaded, IsFirstRefused};
 
 use crate::adding::add;
 use crate::faults::StoreFault;
 use crease_model::{Kind, Pattern};
 use plane_geometry::Point;
-use std::alloc::Global;
+use std::alloc::{AllocError, Global};
 use thiserror::Error;
 
 /// A line of a block to load, with its number in the block, from 1.
@@ -30,25 +30,29 @@ pub struct LoadStoreFault {
     pub fault: StoreFault,
 }
 
-// Without memory the number is 0.
-fn refusal_at(number: u32, fault: StoreFault) -> LoadStoreFault
-    ensures { IsLoadAnswer (Err result) (Err (refused_line number fault)) }
-{
-    match fault {
-        StoreFault::Memory => LoadStoreFault { number: 0, fault },
-        _ => LoadStoreFault { number, fault },
+impl From<AllocError> for LoadStoreFault {
+    ghost use Rattle.std.specs.Prelude.{◌≡◌};
+    ghost use Rattle.crease_store.specs.declared.faults.StoreFault.TheVariants.{Memory};
+
+    ghost from_gives = { λ _ e. e ≡ record { number = 0; fault = Memory } };
+
+    fn from(_e: AllocError) -> LoadStoreFault {
+        LoadStoreFault {
+            number: 0,
+            fault: StoreFault::Memory,
+        }
     }
 }
 
-fn nothing_on(pattern: &Pattern) -> Result<Pattern, LoadStoreFault>
-    ensures { IsLoadAnswer result (Ok (empty_on pattern.now.corners)) }
+// Without memory the number is 0.
+fn fault_at(number: u32, fault: StoreFault) -> LoadStoreFault
+    ensures number { IsSome (refusal_of fault) → result.number ≡ number }
+    ensures memory { IsNone (refusal_of fault) → result.number ≡ 0 }
+    ensures fault { result.fault ≡ fault }
 {
-    match pattern.sheet().copy() {
-        Ok(sheet) => Ok(Pattern::empty(sheet)),
-        Err(_) => Err(LoadStoreFault {
-            number: 0,
-            fault: StoreFault::Memory,
-        }),
+    match fault.refusal() {
+        Some(_) => LoadStoreFault { number, fault },
+        None => LoadStoreFault { number: 0, fault },
     }
 }
 
@@ -57,18 +61,33 @@ fn add_loaded(alloc: Global, pattern: &Pattern, line: &LoadLine) -> Result<Patte
 {
     match add(alloc, pattern, line.kind, &line.from, &line.to) {
         Ok(new) => Ok(new),
-        Err(fault) => Err(refusal_at(line.number, fault)),
+        Err(fault) => Err(fault_at(line.number, fault)),
     }
 }
 
-/// The sheet of a pattern with these lines, each added in order.
+// The lines added to the sheet of a pattern, one after another.
 #[tactic(auto, unfolding(crate::specs::Loading::load_of))]
-pub fn load(alloc: Global, pattern: &Pattern, lines: &[LoadLine]) -> Result<Pattern, LoadStoreFault>
+fn load_lines(
+    alloc: Global,
+    pattern: &Pattern,
+    lines: &[LoadLine],
+) -> Result<Pattern, LoadStoreFault>
     ensures { IsLoadAnswer result (load_of pattern.now lines.now) }
 {
-    let mut loaded = nothing_on(pattern)?;
+    let mut loaded = Pattern::empty(pattern.sheet().copy()?);
     for line in lines {
         loaded = add_loaded(alloc, &loaded, line)?;
     }
     Ok(loaded)
+}
+
+/// The sheet of a pattern with these lines, each added in order.
+pub fn load(alloc: Global, pattern: &Pattern, lines: &[LoadLine]) -> Result<Pattern, LoadStoreFault>
+    ensures loaded { IfOk result (λ new. IsLoaded (empty_on pattern.now.corners) lines.now new) }
+    ensures refused { IfErr result (λ e. IfSome (refusal_of e.fault) (λ refusal. IsFirstRefused (empty_on pattern.now.corners) lines.now e.number refusal)) }
+    ensures exact { IsLoadAnswer result (load_of pattern.now lines.now) }
+{
+    // tells the rules that the sheet keeps
+    let _ = pattern.sheet();
+    load_lines(alloc, pattern, lines)
 }

@@ -1,9 +1,13 @@
 //! Merging: chains of pieces become one piece each.
 
-ghost use Rattle.std.specs.Prelude.{◌≡◌, ◌&&◌, Ok, IfOk, IsTrue, filter, nat_eq, length};
-ghost use Rattle.crease_store.specs.Merged.{is_same_kind, begins_at, arrives_at, only_from, only_to, is_alike, are_alike, is_loose, next_piece, last_piece, joined_to, merged_from, merged_among, merge_of};
-ghost use Rattle.crease_model.specs.Rules.{is_ascending, segments_of};
-ghost use Rattle.crease_store.specs.Rising.{beginning_of, arrival_of, is_rising, first_passes, first_alone, AreSorted};
+ghost use Rattle.std.specs.Prelude.{◌≡◌, ◌&&◌, Ok, Contains, IfOk, IsTrue, IsFalse, filter, nat_eq, length};
+ghost use Rattle.plane_geometry.specs.declared.Point.{Point};
+ghost use Rattle.plane_geometry.specs.SegmentView.{stretch_of};
+ghost use Rattle.crease_model.specs.declared.Piece.{Piece};
+ghost use Rattle.crease_store.specs.Merged.{is_same_kind, begins_at, arrives_at, only_from, only_to, is_alike, are_alike, is_loose, next_piece, last_piece, joined_to, merged_from, merged_among, merge_of, IsMerged};
+ghost use Rattle.crease_model.specs.Rules.{IsPattern, is_ascending, segments_of};
+ghost use Rattle.crease_store.specs.Rising.{beginning_of, arrival_of, is_sorted_by, first_passes, first_alone, AreSorted};
+ghost use Rattle.crease_store.specs.Added.{covers};
 ghost use Rattle.crease_store.specs.Answer.{IsAnswer};
 
 use crate::faults::StoreFault;
@@ -86,7 +90,7 @@ fn alone_to(v: &Point, pieces: &[Piece]) -> Option<Piece>
 
 // The only piece that begins at a point, among pieces sorted by their lesser ends.
 fn only_from(pieces: &[Piece], v: &Point) -> Option<Piece>
-    requires { IsTrue (is_rising beginning_of pieces.now) }
+    requires { IsTrue (is_sorted_by beginning_of pieces.now) }
     ensures { result ≡ only_from pieces.now v.now }
 {
     let start = pieces.partition_point(|piece| piece.segment.from().cmp(v).is_lt());
@@ -95,7 +99,7 @@ fn only_from(pieces: &[Piece], v: &Point) -> Option<Piece>
 
 // The only piece that arrives at a point, among pieces sorted by their greater ends.
 fn only_to(pieces: &[Piece], v: &Point) -> Option<Piece>
-    requires { IsTrue (is_rising arrival_of pieces.now) }
+    requires { IsTrue (is_sorted_by arrival_of pieces.now) }
     ensures { result ≡ only_to pieces.now v.now }
 {
     let start = pieces.partition_point(|piece| piece.segment.to().cmp(v).is_lt());
@@ -211,21 +215,20 @@ fn merged_pieces(alloc: Global, pieces: &[Piece]) -> Result<Vec<Piece>, AllocErr
 
 #[tactic(auto, unfolding(crate::specs::Merged::merge_of))]
 fn merge_pattern(alloc: Global, pattern: &Pattern) -> Result<Pattern, AllocError>
-    ensures { IfOk result (λ new. new ≡ merge_of pattern.now) }
+    ensures value { IfOk result (λ new. new ≡ merge_of pattern.now) }
+    ensures rules { IsPattern pattern.now }
 {
-    let pieces = merged_pieces(alloc, pattern.pieces())?;
-    let aux = Vec::from_slice(alloc, pattern.aux())?;
-    let sheet = pattern.sheet().copy()?;
-    Ok(Pattern::of(sheet, pieces, aux))
+    pattern.with_pieces(merged_pieces(alloc, pattern.pieces())?)
 }
 
 /// The pattern with all loose vertices taken away at once: where exactly two pieces end at a vertex, in opposite directions
 /// and of one kind, they become one piece.
 pub fn merge(alloc: Global, pattern: &Pattern) -> Result<Pattern, StoreFault>
-    ensures { IsAnswer result (Ok (merge_of pattern.now)) }
+    ensures merged { IfOk result (λ new. IsMerged pattern.now new) }
+    ensures covering { IfOk result (λ new. (z : Piece) → Contains pattern.now.pieces z
+        → (q : Piece) × Contains new.pieces q × IsTrue (covers (stretch_of q.segment) (stretch_of z.segment)) × (q.kind ≡ z.kind)) }
+    ensures none_loose { IfOk result (λ new. (v : Point) → IsFalse (is_loose new.pieces v)) }
+    ensures exact { IsAnswer result (Ok (merge_of pattern.now)) }
 {
-    match merge_pattern(alloc, pattern) {
-        Ok(new) => Ok(new),
-        Err(_) => Err(StoreFault::Memory),
-    }
+    Ok(merge_pattern(alloc, pattern)?)
 }

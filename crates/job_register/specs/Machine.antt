@@ -6,12 +6,11 @@ use Rattle.crease_model.specs.View.{PatternView, empty_on}
 use Rattle.crease_model.specs.Sheet.{square_corners}
 use Rattle.crease_model.specs.NewSheet.{sheet_of}
 use Rattle.crease_model.specs.Rules.{size_of}
-use Rattle.crease_store.specs.declared.faults.StoreFault.{StoreFault}
-use Rattle.crease_store.specs.declared.loading.LoadStoreFault.{LoadStoreFault}
+use Rattle.crease_store.specs.declared.faults.StoreRefusal.{StoreRefusal}
 use Rattle.crease_store.specs.Adding.{add_of}
 use Rattle.crease_store.specs.Changed.{delete_of, set_of, clear_of}
 use Rattle.crease_store.specs.Merged.{merge_of}
-use Rattle.crease_store.specs.Loading.{load_of}
+use Rattle.crease_store.specs.Loading.{LoadRefusal, load_of}
 use Rattle.undo_journal.specs.Versions.{JournalView, greatest_version, opened, committed, undone, redone, current_pattern, greatest_of}
 use Rattle.script_lang.specs.declared.block.LoadStop.{LoadStop}
 use Rattle.script_lang.specs.declared.block.LoadStop.TheVariants as stop
@@ -53,9 +52,9 @@ version_answer j = record { reply = Version j.current (size_of (current_pattern_
 abbrev pub committed_answer : State → PatternView → Answer
 committed_answer s pattern = if nat_eq (greatest_of s.journal) greatest_version then refusal_answer s refusal.Full else version_answer (committed s.journal pattern)
 
-abbrev pub change_answer : State → Result PatternView StoreFault → Answer
+abbrev pub change_answer : State → Result PatternView StoreRefusal → Answer
 change_answer s (Ok pattern) = committed_answer s pattern
-change_answer s (Err fault) = refusal_answer s (store_refusal fault)
+change_answer s (Err refusal) = refusal_answer s (store_refusal refusal)
 
 -- the new sheet with nothing on it
 abbrev pub sheet_answer : State → Result (List Point) ℕ → Answer
@@ -69,9 +68,9 @@ stop_answer s (stop.Bad number fault) pattern = refusal_answer s (refusal.LoadLi
 stop_answer s stop.Unended pattern = refusal_answer s refusal.LoadUnended
 
 -- a block is refused by its first line that is not added, else by how it ends
-abbrev pub load_answer : State → LoadStop → Result PatternView LoadStoreFault → Answer
+abbrev pub load_answer : State → LoadStop → Result PatternView LoadRefusal → Answer
 load_answer s end (Ok pattern) = stop_answer s end pattern
-load_answer s end (Err refused_line) = refusal_answer s (refusal.LoadLine refused_line.number (cause.Add refused_line.fault))
+load_answer s end (Err refused_line) = refusal_answer s (refusal.LoadLine refused_line.number (cause.Add refused_line.refusal))
 
 abbrev pub redone_answer : State → Option JournalView → Answer
 redone_answer s None = refusal_answer s refusal.NothingToRedo

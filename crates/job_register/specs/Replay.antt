@@ -9,7 +9,7 @@ use Rattle.script_lang.specs.declared.command.Command.{Command}
 use Rattle.script_lang.specs.declared.command.Command.TheVariants.{Add, Delete, Set, Merge, Clear, Sheet, Load, Undo, Redo, List as ListCommand, Bad}
 use Rattle.crease_model.specs.declared.Kind.TheVariants.{Edge, Mountain, Valley}
 use Rattle.crease_model.specs.Sheet.{whole_point}
-use Rattle.crease_store.specs.declared.faults.StoreFault.TheVariants.{BadDirection}
+use Rattle.crease_store.specs.declared.faults.StoreRefusal.TheVariants.{BadDirection}
 use Rattle.crease_store.specs.declared.loading.LoadLine.{LoadLine}
 use Rattle.cp_text.specs.declared.line.LineFault.TheVariants as line_fault
 use Rattle.script_lang.specs.declared.block.LoadStop.TheVariants.{Ended, Unended}

@@ -1,12 +1,12 @@
 //! The answer to one command.
 
-ghost use Rattle.std.specs.Prelude.{◌≡◌, ◌≢◌, IfOk, MatchResult, OnErr, IsTrue};
+ghost use Rattle.std.specs.Prelude.{◌≡◌, IfOk, IfSome, IsSome, OnErr, IsTrue};
 ghost use Rattle.std.specs.declared.result.Result.{Result};
 ghost use Rattle.crease_model.specs.View.{PatternView};
-ghost use Rattle.crease_store.specs.declared.faults.StoreFault.{StoreFault};
+ghost use Rattle.crease_store.specs.declared.faults.StoreRefusal.{StoreRefusal};
 ghost use Rattle.crease_model.specs.NewSheet.{sheet_of};
 ghost use Rattle.crease_model.specs.Rules.{size_of};
-ghost use Rattle.crease_store.specs.Answer.{IsAnswer};
+ghost use Rattle.crease_store.specs.Answer.{IsAnswer, refusal_of};
 ghost use Rattle.crease_store.specs.Loading.{load_of};
 ghost use Rattle.script_lang.specs.Script.{meets_condition};
 ghost use Rattle.job_register.specs.Machine.{answer, change_answer, version_answer, current_pattern_of, committed_answer, sheet_answer, load_answer, stop_answer};
@@ -55,14 +55,16 @@ fn commit_change(
     journal: &mut Journal,
     change: Result<Pattern, StoreFault>,
 ) -> Result<Reply, AllocError>
-    ensures ok { IfOk result (λ reply. (defined : Result PatternView StoreFault) → IsAnswer change defined
+    ensures ok { IfOk result (λ reply. (defined : Result PatternView StoreRefusal) → IsAnswer change defined
         → record { reply = reply; state = record { journal = journal.new } } ≡ change_answer (record { journal = journal.old }) defined) }
     ensures err { OnErr result (journal.new ≡ journal.old) }
 {
     match change {
         Ok(pattern) => commit(journal, pattern),
-        Err(fault) => match refusal_of_store(fault) {
-            Some(refusal) => Ok(Reply::Refused { refusal }),
+        Err(fault) => match fault.refusal() {
+            Some(refusal) => Ok(Reply::Refused {
+                refusal: refusal_of_store(refusal),
+            }),
             None => Err(AllocError),
         },
     }
@@ -104,16 +106,16 @@ fn stop(journal: &mut Journal, pattern: Pattern, end: LoadStop) -> Result<Reply,
 
 // The refusal of a line of a block; without memory there is none.
 fn refuse_line(number: u32, fault: StoreFault) -> Result<Reply, AllocError>
-    ensures { MatchResult result (λ reply. (fault ≢ StoreFault.Memory) × (reply ≡ Reply.Refused (Refusal.LoadLine number (LoadCause.Add fault)))) (λ _. fault ≡ StoreFault.Memory) }
+    ensures { IfOk result (λ reply. IfSome (refusal_of fault) (λ refusal. reply ≡ Reply.Refused (Refusal.LoadLine number (LoadCause.Add refusal))) × IsSome (refusal_of fault)) }
 {
-    match fault {
-        StoreFault::Memory => Err(AllocError),
-        _ => Ok(Reply::Refused {
+    match fault.refusal() {
+        Some(refusal) => Ok(Reply::Refused {
             refusal: Refusal::LoadLine {
                 number,
-                cause: LoadCause::Add { fault },
+                cause: LoadCause::Add { refusal },
             },
         }),
+        None => Err(AllocError),
     }
 }
 

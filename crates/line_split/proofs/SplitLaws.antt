@@ -1,6 +1,19 @@
 -- The laws of cutting, each proved.
-use Rattle.std.proofs.Common.{sym, ap, ◌∙◌}
-use Rattle.plane_geometry.specs.Position.{position_of}
+use Rattle.std.proofs.Common.{◌≡◌, ◌↔◌, ◌⊎◌, inl, inr, ℕ, List, refl, sym, ap, subst, ◌∙◌}
+use Rattle.std.specs.Prelude.{◌≢◌, Ok, Err, Contains, IsErrOf, IsTrue, MatchResult}
+use Rattle.std.specs.declared.result.Result.{Result}
+use Rattle.plane_geometry.specs.declared.Point.{Point}
+use Rattle.plane_geometry.specs.declared.Segment.{Segment}
+use Rattle.plane_geometry.specs.SegmentView.{stretch_of}
+use Rattle.crease_model.specs.declared.Piece.{Piece}
+use Rattle.line_split.specs.declared.cutting.SplitFault.{SplitFault}
+use Rattle.line_split.specs.declared.cutting.SplitFault.TheVariants.{OutOfRange, Memory}
+use Rattle.line_split.specs.Answer.{IsCutFault}
+use Rattle.line_split.specs.Points.{with_point, HasPointAt}
+use Rattle.line_split.specs.Cuts.{is_cut, cuts_of, IsFirstOutOfRange}
+use Rattle.line_split.specs.MemberLaws.{Member, member, contained}
+use Rattle.line_split.specs.PointLaws.{with_point_new, with_point_old, with_point_either}
+use Rattle.plane_geometry.specs.Position.{Position, position_of}
 use Rattle.plane_geometry.specs.Direction.{is_zero}
 use Rattle.plane_geometry.specs.StretchLaws.{same_is, zero_is, turned_zero}
 use Rattle.line_split.specs.Laws.{CutsAreExact, FaultIsFirst, PartsAreExact}
@@ -22,3 +35,48 @@ fault_is_first s pieces number = (to_first s pieces number, first_is_fault s pie
 
 pub parts_are_exact : PartsAreExact
 parts_are_exact p points up q = (parts_are_parts p points up q, parts_are_all p points up q)
+
+-- ---- the same at an answer
+
+pub cuts_found : (s : Segment) (pieces : List Piece) (points : List Point) → cuts_of s pieces ≡ Ok points → (v : Position) → HasPointAt points v ↔ IsTrue (is_cut pieces (stretch_of s) v)
+cuts_found s pieces points cut v = let w = (cuts_are_exact s pieces points cut).1 v in (w.1, w.0)
+
+-- there is no fault where there are cuts
+none_out_of_range : {T : Type 0} (answer : T) (s : Segment) (pieces : List Piece) (points : List Point) → cuts_of s pieces ≡ Ok points → (number : ℕ)
+    → (◌≡◌ {A = Result T SplitFault} (Ok answer) (Err (OutOfRange number))) ↔ ((◌≢◌ {A = Result T SplitFault} (Ok answer) (Err Memory)) × IsFirstOutOfRange (stretch_of s) pieces number)
+none_out_of_range answer s pieces points cut number = (
+  (λ same. absurd (cc)),
+  λ w. let both : Ok points ≡ Err number = sym cut ∙ first_is_fault s pieces number w.1 in absurd (cc),
+)
+
+-- a fault is that of the first piece, or want of memory
+first_out_of_range : {T : Type 0} (s : Segment) (pieces : List Piece) (fault : SplitFault) → IsCutFault fault (cuts_of s pieces) → (number : ℕ)
+    → (◌≡◌ {A = Result T SplitFault} (Err fault) (Err (OutOfRange number))) ↔ ((◌≢◌ {A = Result T SplitFault} (Err fault) (Err Memory)) × IsFirstOutOfRange (stretch_of s) pieces number)
+first_out_of_range s pieces (OutOfRange m) e number = (
+  (λ same. let one : m ≡ number = cc in ((λ h. absurd (cc)), subst (IsFirstOutOfRange (stretch_of s) pieces) one (to_first s pieces m e))),
+  λ w.
+      let both : Err m ≡ Err number = sym e ∙ first_is_fault s pieces number w.1 in
+      let one : m ≡ number = cc in
+      ap (λ n. Err (OutOfRange n)) one,
+)
+first_out_of_range s pieces Memory e number = ((λ same. absurd (cc)), λ w. absurd (w.0 refl))
+
+-- an answer tells the first piece whose common point is out of range, exactly where there is one and memory is not wanted
+pub answer_where : {T : Type 0} (s : Segment) (pieces : List Piece) (points_of : T → List Point) (answer : Result T SplitFault)
+    → MatchResult answer (λ v. cuts_of s pieces ≡ Ok (points_of v)) (λ fault. IsCutFault fault (cuts_of s pieces))
+    → (number : ℕ) → IsErrOf answer (OutOfRange number) ↔ ((answer ≢ Err Memory) × IsFirstOutOfRange (stretch_of s) pieces number)
+answer_where s pieces points_of (Ok v) cut number = none_out_of_range v s pieces (points_of v) cut number
+answer_where s pieces points_of (Err fault) e number = first_out_of_range s pieces fault e number
+
+-- ---- one point more
+
+pub point_added : (points : List Point) (v w : Point) → Contains (with_point points v) w ↔ (Contains points w ⊎ (w ≡ v))
+point_added points v w = (λ c. old_or_new (with_point_either points v w (member _ w c)), there)
+  where
+    old_or_new : (v ≡ w) ⊎ Member points w → Contains points w ⊎ (w ≡ v)
+    old_or_new (inl e) = inr (sym e)
+    old_or_new (inr m) = inl (contained points w m)
+
+    there : Contains points w ⊎ (w ≡ v) → Contains (with_point points v) w
+    there (inl c) = contained _ w (with_point_old points v w (member points w c))
+    there (inr e) = subst (Contains (with_point points v)) (sym e) (contained _ v (with_point_new points v))

@@ -1,6 +1,6 @@
 -- A segment is not cut by another that it does not touch.
-use Rattle.std.proofs.Common.{◌≡◌, Bool, true, false, cond, not, ◌&&◌, ◌||◌, List, refl, sym, ap, ap₂, ◌∙◌}
-use Rattle.std.specs.Prelude.{Option, None, Some}
+use Rattle.std.proofs.Common.{◌≡◌, Bool, true, false, cond, not, ◌&&◌, ◌||◌, List, refl, ap, ◌∙◌}
+use Rattle.std.specs.Prelude.{Some}
 use Rattle.std.proofs.lemmas.Bool.{false_from_ne_true, or_left, or_right, both_ways}
 use Rattle.plane_geometry.specs.declared.Point.{Point}
 use Rattle.plane_geometry.specs.declared.Segment.{Segment}
@@ -8,7 +8,8 @@ use Rattle.plane_geometry.specs.Position.{position_of}
 use Rattle.plane_geometry.specs.SegmentView.{stretch_of, lesser_end, greater_end}
 use Rattle.plane_geometry.specs.Stretch.{Stretch, is_on, is_crossing, is_touching}
 use Rattle.plane_geometry.specs.Common.{is_parallel, common_of}
-use Rattle.line_split.specs.Cuts.{with_point, with_point_on, with_ends, is_meeting, with_common, with_meeting, with_piece_cuts}
+use Rattle.line_split.specs.Points.{with_point}
+use Rattle.line_split.specs.Cuts.{with_point_on, with_ends, with_common, with_piece_cuts}
 
 off_by : (s : Stretch) (points : List Point) (v : Point) → is_on (position_of v) s ≡ false → with_point_on s points v ≡ points
 off_by s points v e = ap (λ (b : Bool). cond b (with_point points v) points) e

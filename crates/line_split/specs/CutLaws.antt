@@ -11,11 +11,12 @@ use Rattle.plane_geometry.specs.Stretch.{Stretch, is_end, is_on, is_between, is_
 use Rattle.plane_geometry.specs.Common.{is_parallel, common_of}
 use Rattle.plane_geometry.specs.SideLaws.{order_of}
 use Rattle.plane_geometry.specs.StretchLaws.{turned_zero, on_parts, on_from_parts, end_parts, from_end, to_end}
-use Rattle.plane_geometry.specs.CommonPoints.{lies_same, end_same, touching_is}
+use Rattle.plane_geometry.specs.CommonPointLaws.{lies_same, end_same, touching_is}
 use Rattle.plane_geometry.specs.CommonLaws.{common_only}
 use Rattle.crease_model.specs.declared.Piece.{Piece}
-use Rattle.line_split.specs.Members.{Member, member, contained, any_member, member_any}
-use Rattle.line_split.specs.Cuts.{is_meeting_point, is_cut, is_rising, with_point, with_point_on, with_ends, is_meeting, with_common, with_meeting, with_piece_cuts, points_or, cuts_from, cuts_of}
+use Rattle.line_split.specs.MemberLaws.{Member, member, contained, any_member, member_any}
+use Rattle.line_split.specs.Points.{is_rising, with_point}
+use Rattle.line_split.specs.Cuts.{is_meeting_point, is_cut, with_point_on, with_ends, is_meeting, with_common, with_meeting, with_piece_cuts, points_or, cuts_from, cuts_of}
 use Rattle.line_split.specs.PointLaws.{with_point_new, with_point_old, with_point_either, with_point_rising}
 
 -- ---- where one segment cuts another

@@ -1,18 +1,16 @@
 -- Where a segment is cut by pieces: at its ends, at their ends on it, and where it meets a piece of another direction.
-use Rattle.std.specs.Prelude.{◌≡◌, ℕ, ◌+◌, Bool, true, ◌&&◌, ◌||◌, not, List, [], ◌∷◌, ◌++◌, length, Option, None, Some, Ok, Err, Contains, IsTrue, if◌then◌else◌}
+use Rattle.std.specs.Prelude.{◌≡◌, ℕ, ◌+◌, Bool, ◌&&◌, ◌||◌, not, List, [], ◌∷◌, ◌++◌, length, Option, None, Some, Ok, Err, Contains, IsTrue, if◌then◌else◌}
 use Rattle.std.specs.List.{list_any}
 use Rattle.std.specs.Bool.{IsFalse}
-use Rattle.std.specs.Ordering.{is_lt}
 use Rattle.std.specs.declared.result.Result.{Result}
-use Rattle.std.specs.declared.cmp.Ordering.{Ordering}
-use Rattle.std.specs.declared.cmp.Ordering.TheVariants.{Less, Equal, Greater}
 use Rattle.plane_geometry.specs.declared.Point.{Point}
 use Rattle.plane_geometry.specs.declared.Segment.{Segment}
-use Rattle.plane_geometry.specs.Position.{Position, position_of, compare_positions, is_same_position}
+use Rattle.plane_geometry.specs.Position.{Position, position_of}
 use Rattle.plane_geometry.specs.SegmentView.{stretch_of, lesser_end, greater_end}
 use Rattle.plane_geometry.specs.Stretch.{Stretch, is_end, is_on, is_touching, ShareAPoint}
 use Rattle.plane_geometry.specs.Common.{is_parallel, common_of}
 use Rattle.crease_model.specs.declared.Piece.{Piece}
+use Rattle.line_split.specs.Points.{with_point}
 
 -- ---- which points
 
@@ -25,23 +23,6 @@ abbrev pub is_cut : List Piece → Stretch → Position → Bool
 is_cut pieces s v = is_on v s && (is_end v s || list_any (λ p. is_end v (stretch_of p.segment) || is_meeting_point v s (stretch_of p.segment)) pieces)
 
 -- ---- the same as a list
-
--- by how one thing compares with another
-abbrev pub by_order : {X : Type 0} → Ordering → X → X → X → X
-by_order Less less equal greater = less
-by_order Equal less equal greater = equal
-by_order Greater less equal greater = greater
-
--- each point stands before the next
-abbrev pub is_rising : List Point → Bool
-is_rising [] = true
-is_rising (p ∷ []) = true
-is_rising (p ∷ q ∷ ps) = is_lt (compare_positions (position_of p) (position_of q)) && is_rising (q ∷ ps)
-
--- points in ascending order with one more, unless it is there
-abbrev pub with_point : List Point → Point → List Point
-with_point [] v = v ∷ []
-with_point (p ∷ ps) v = by_order (compare_positions (position_of v) (position_of p)) (v ∷ p ∷ ps) (p ∷ ps) (p ∷ with_point ps v)
 
 -- with the point if it is on the stretch
 abbrev pub with_point_on : Stretch → List Point → Point → List Point
@@ -81,10 +62,6 @@ unfoldable pub cuts_of : Segment → List Piece → Result (List Point) ℕ
 cuts_of s pieces = cuts_from (stretch_of s) 1 pieces (lesser_end s ∷ greater_end s ∷ [])
 
 -- ---- the same by points
-
--- one of the points is in this place
-abbrev pub HasPointAt : List Point → Position → Type 0
-HasPointAt points v = (p : Point) × Contains points p × IsTrue (is_same_position v (position_of p))
 
 -- the segments have different directions and a point in common, but no point of two Surds
 pub record MeetsOutOfRange (s u : Stretch) : Type 0 where

@@ -10,10 +10,10 @@ use Rattle.plane_geometry.specs.SegmentView.{stretch_of, lesser_end, greater_end
 use Rattle.plane_geometry.specs.Stretch.{is_touching}
 use Rattle.plane_geometry.specs.Common.{is_parallel, common_of}
 use Rattle.plane_geometry.specs.StretchLaws.{on_parts}
-use Rattle.plane_geometry.specs.CommonPoints.{touching_is}
+use Rattle.plane_geometry.specs.CommonPointLaws.{touching_is}
 use Rattle.plane_geometry.specs.CommonLaws.{common_some}
 use Rattle.crease_model.specs.declared.Piece.{Piece}
-use Rattle.line_split.specs.Members.{Member, member, contained}
+use Rattle.line_split.specs.MemberLaws.{Member, member, contained}
 use Rattle.line_split.specs.Cuts.{is_meeting, with_ends, with_common, with_piece_cuts, points_or, cuts_from, cuts_of, MeetsOutOfRange, IsFirstOutOfRange}
 use Rattle.line_split.specs.CutLaws.{common_is_on}
 

@@ -5,7 +5,8 @@ use Rattle.plane_geometry.specs.declared.Segment.{Segment}
 use Rattle.plane_geometry.specs.Position.{Position}
 use Rattle.plane_geometry.specs.SegmentView.{stretch_of}
 use Rattle.crease_model.specs.declared.Piece.{Piece}
-use Rattle.line_split.specs.Cuts.{is_cut, is_rising, cuts_of, HasPointAt, IsFirstOutOfRange}
+use Rattle.line_split.specs.Points.{is_rising, HasPointAt}
+use Rattle.line_split.specs.Cuts.{is_cut, cuts_of, IsFirstOutOfRange}
 use Rattle.line_split.specs.Parts.{parts_of, IsPart}
 
 -- the cut points are in just those places where the segment is cut, and ascend

@@ -1,10 +1,11 @@
-pub mod Members
+pub mod Points
 pub mod Cuts
 pub mod Parts
 pub mod Answer
+pub mod Laws
+pub mod MemberLaws
 pub mod PointLaws
 pub mod CutLaws
 pub mod PartLaws
 pub mod FaultLaws
-pub mod Laws
-pub mod Lengths
+pub mod LengthLaws

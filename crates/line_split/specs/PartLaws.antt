@@ -13,12 +13,12 @@ use Rattle.plane_geometry.specs.Stretch.{is_end, is_on, is_between}
 use Rattle.plane_geometry.specs.DirectionLaws.{along_unique, along_from_parts}
 use Rattle.plane_geometry.specs.SideLaws.{order_self, side_from}
 use Rattle.plane_geometry.specs.StretchLaws.{before_is, before_then, then_before, side_self, ends_order, to_in_line, from_end, to_end}
-use Rattle.plane_geometry.specs.CommonPoints.{LiesBetween, between_parts, between_from_parts, line_through, dot_is_order}
+use Rattle.plane_geometry.specs.CommonPointLaws.{LiesBetween, between_parts, between_from_parts, line_through, dot_is_order}
 use Rattle.plane_geometry.specs.SegmentLaws.{segment_is, segment_of-ends}
 use Rattle.crease_model.specs.declared.Kind.{Kind}
 use Rattle.crease_model.specs.declared.Piece.{Piece}
-use Rattle.line_split.specs.Members.{Member, member, contained, filter_member, member_filter}
-use Rattle.line_split.specs.Cuts.{is_rising}
+use Rattle.line_split.specs.MemberLaws.{Member, member, contained, filter_member, member_filter}
+use Rattle.line_split.specs.Points.{is_rising}
 use Rattle.line_split.specs.Parts.{inner_points, piece_on, pieces_between, parts_of}
 pub use Rattle.line_split.specs.Parts.{IsPartEnd, IsPart}
 use Rattle.line_split.specs.PointLaws.{point_order, rising_rest, rising_next, rising_later, rising_from, filter_rising, not_before_itself, not_before_each_other}

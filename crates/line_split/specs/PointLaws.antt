@@ -14,8 +14,8 @@ use Rattle.plane_geometry.specs.Direction.{is_positive, is_negative}
 use Rattle.plane_geometry.specs.SideLaws.{order_of, compare_is, order_self, order_turned}
 use Rattle.plane_geometry.specs.StretchLaws.{before_is, positive_is, before_then}
 use Rattle.plane_geometry.specs.SegmentLaws.{point_is}
-use Rattle.line_split.specs.Members.{Member, filter_member}
-use Rattle.line_split.specs.Cuts.{by_order, with_point, is_rising}
+use Rattle.line_split.specs.MemberLaws.{Member, filter_member}
+use Rattle.line_split.specs.Points.{by_order, with_point, is_rising}
 
 -- Pos where p stands before q
 abbrev pub point_order : Point → Point → Sgn

@@ -1,8 +1,11 @@
 //! The points where a segment is cut.
 
-ghost use Rattle.std.specs.Prelude.{◌≡◌, ◌<◌, ◌≤◌, ◌∷◌, ◌++◌, [], Some, Ok, length, drop, take, IfOk, IfSome, OnOk, MatchOption, MatchResult};
+ghost use Rattle.std.specs.Prelude.{◌≡◌, ◌≢◌, ◌↔◌, ◌⊎◌, ◌<◌, ◌≤◌, ◌∷◌, ◌++◌, [], ℕ, Some, Ok, Err, length, drop, take, Contains, IfOk, IfSome, OnOk, OnErr, IsErrOf, IsTrue, MatchOption, MatchResult};
+ghost use Rattle.plane_geometry.specs.declared.Point.{Point};
+ghost use Rattle.plane_geometry.specs.Position.{Position};
 ghost use Rattle.plane_geometry.specs.SegmentView.{stretch_of, lesser_end, greater_end};
-ghost use Rattle.line_split.specs.Cuts.{with_point, with_point_on, with_ends, is_meeting, with_meeting, with_piece_cuts, cuts_from, cuts_of};
+ghost use Rattle.line_split.specs.Points.{is_rising, with_point, HasPointAt};
+ghost use Rattle.line_split.specs.Cuts.{is_cut, with_point_on, is_meeting, with_meeting, with_piece_cuts, cuts_from, cuts_of, IsFirstOutOfRange};
 ghost use Rattle.line_split.specs.Answer.{IsCutFault, IsFaultAt, some_if};
 
 use crease_model::Piece;
@@ -18,6 +21,16 @@ pub enum SplitFault {
     OutOfRange { piece: u32 },
     #[error("out of memory")]
     Memory,
+}
+
+impl From<AllocError> for SplitFault {
+    ghost use Rattle.line_split.specs.declared.cutting.SplitFault.TheVariants.{Memory};
+
+    ghost from_gives = { λ _ e. e ≡ Memory };
+
+    fn from(_e: AllocError) -> SplitFault {
+        SplitFault::Memory
+    }
 }
 
 // Where a point goes among ascending points; None where it is there.
@@ -37,7 +50,10 @@ fn place_for(points: &[Point], v: &Point) -> Option<usize>
 
 /// Adds a point to ascending points, unless it is there.
 pub fn insert_point(points: &mut Vec<Point>, v: &Point) -> Result<(), AllocError>
-    ensures { OnOk result (points.new.items ≡ with_point points.old.items v.now) }
+    ensures added { OnOk result ((w : Point) → Contains points.new.items w ↔ (Contains points.old.items w ⊎ (w ≡ v.now))) }
+    ensures order { OnOk result (IsTrue (is_rising points.old.items) → IsTrue (is_rising points.new.items)) }
+    ensures exact { OnOk result (points.new.items ≡ with_point points.old.items v.now) }
+    ensures err { OnErr result (points.new.items ≡ points.old.items) }
 {
     if let Some(i) = place_for(points.as_slice(), v) {
         points.insert(i, *v)?;
@@ -46,7 +62,8 @@ pub fn insert_point(points: &mut Vec<Point>, v: &Point) -> Result<(), AllocError
 }
 
 fn insert_point_on(points: &mut Vec<Point>, s: &Segment, v: &Point) -> Result<(), AllocError>
-    ensures { OnOk result (points.new.items ≡ with_point_on (stretch_of s.now) points.old.items v.now) }
+    ensures ok { OnOk result (points.new.items ≡ with_point_on (stretch_of s.now) points.old.items v.now) }
+    ensures err { OnErr result (points.new.items ≡ points.old.items) }
 {
     if on_segment(v, s) {
         insert_point(points, v)?;
@@ -63,7 +80,8 @@ fn meeting(s: &Segment, u: &Segment) -> bool
 
 // Adds the common point, where they meet; false where it is not of two Surds.
 fn insert_meeting(points: &mut Vec<Point>, s: &Segment, u: &Segment) -> Result<bool, AllocError>
-    ensures { IfOk result (λ found. with_meeting (stretch_of s.now) points.old.items (stretch_of u.now) ≡ some_if found points.new.items) }
+    ensures ok { IfOk result (λ found. with_meeting (stretch_of s.now) points.old.items (stretch_of u.now) ≡ some_if found points.new.items) }
+    ensures err { OnErr result (points.new.items ≡ points.old.items) }
 {
     if !meeting(s, u) {
         return Ok(true);
@@ -77,7 +95,8 @@ fn insert_meeting(points: &mut Vec<Point>, s: &Segment, u: &Segment) -> Result<b
     }
 }
 
-// Adds the points where a segment is cut by another; false where their common point is not of two Surds.
+// Adds the points where a segment is cut by another; false where their common point is not of two Surds. Without memory a part
+// of them may be added.
 fn insert_cuts(points: &mut Vec<Point>, s: &Segment, u: &Segment) -> Result<bool, AllocError>
     ensures { IfOk result (λ found. with_piece_cuts (stretch_of s.now) points.old.items u.now ≡ some_if found points.new.items) }
 {
@@ -89,6 +108,7 @@ fn insert_cuts(points: &mut Vec<Point>, s: &Segment, u: &Segment) -> Result<bool
     insert_meeting(points, s, u)
 }
 
+// Without memory a part of the points may be added.
 fn insert_or_fault(
     points: &mut Vec<Point>,
     s: &Segment,
@@ -97,19 +117,10 @@ fn insert_or_fault(
 ) -> Result<(), SplitFault>
     ensures { MatchResult result (λ _. with_piece_cuts (stretch_of s.now) points.old.items piece.now.segment ≡ Some points.new.items) (λ fault. IsFaultAt fault number (with_piece_cuts (stretch_of s.now) points.old.items piece.now.segment)) }
 {
-    match insert_cuts(points, s, &piece.segment) {
-        Ok(true) => Ok(()),
-        Ok(false) => Err(SplitFault::OutOfRange { piece: number }),
-        Err(_) => Err(SplitFault::Memory),
-    }
-}
-
-fn ends_of(alloc: Global, s: &Segment) -> Result<Vec<Point>, SplitFault>
-    ensures { MatchResult result (λ points. points.items ≡ lesser_end s.now ∷ greater_end s.now ∷ []) (λ fault. fault ≡ SplitFault.Memory) }
-{
-    match Vec::from_slice(alloc, &[*s.from(), *s.to()]) {
-        Ok(points) => Ok(points),
-        Err(_) => Err(SplitFault::Memory),
+    if insert_cuts(points, s, &piece.segment)? {
+        Ok(())
+    } else {
+        Err(SplitFault::OutOfRange { piece: number })
     }
 }
 
@@ -121,9 +132,13 @@ pub fn cut_points(
     pieces: &[Piece],
 ) -> Result<Vec<Point>, SplitFault>
     requires { length pieces.now < 4294967295 }
-    ensures { MatchResult result (λ points. cuts_of segment.now pieces.now ≡ Ok points.items) (λ fault. IsCutFault fault (cuts_of segment.now pieces.now)) }
+    ensures found { IfOk result (λ points. (v : Position) → HasPointAt points.items v ↔ IsTrue (is_cut pieces.now (stretch_of segment.now) v)) }
+    ensures ascending { IfOk result (λ points. IsTrue (is_rising points.items)) }
+    ensures out_of_range { (number : ℕ) → IsErrOf result (SplitFault.OutOfRange number)
+        ↔ ((result ≢ Err SplitFault.Memory) × IsFirstOutOfRange (stretch_of segment.now) pieces.now number) }
+    ensures exact { MatchResult result (λ points. cuts_of segment.now pieces.now ≡ Ok points.items) (λ fault. IsCutFault fault (cuts_of segment.now pieces.now)) }
 {
-    let mut points = ends_of(alloc, segment)?;
+    let mut points = Vec::from_slice(alloc, &[*segment.from(), *segment.to()])?;
     for (i, piece) in pieces.iter().enumerate() {
         insert_or_fault(&mut points, segment, piece, i as u32 + 1)?;
     }

@@ -1,72 +1,43 @@
 -- What `meet` computes with Wides, and when it refuses.
-use Rattle.std.proofs.Common.{◌≡◌, ℕ, ◌+◌, ◌*◌, ◌^◌, ◌<◌, ◌≤◌, [], ◌∷◌, pos, Result, Ok, Err, MatchResult, IfOk, refl, sym, ap, subst, lit≤}
-use Rattle.surd_number.specs.Number.{Number, IsSame, sum_of, difference_of, product_of, power_of, unit_of, unit_inverse_of, half_root}
+use Rattle.std.proofs.Common.{◌≡◌, ℕ, zero, suc, ◌+◌, ◌*◌, ◌^◌, ◌<◌, ◌≤◌, ℤ, pos, unsigned_abs, arith, Result, Ok, Err, MatchResult, IfOk, ap, subst, lit≤}
+use Rattle.std.proofs.lemmas.Nat.{mul-le}
+use Rattle.surd_number.specs.Number.{Number, IsSame, difference_of, product_of, unit_inverse_of, FitsOver}
 use Rattle.surd_number.specs.Stored.{IsWide, IsSurd}
 use Rattle.surd_number.specs.Value.{number_of, wide_number_of}
 use Rattle.surd_number.specs.Exact.{IsSurdOf}
-use Rattle.surd_number.specs.RingTool.{◌⊕◌, ◌⊗◌, con, v0, v1, v2, v3}
-use Rattle.surd_number.specs.NumberLaws.{number_ring, number_ring_from, number_ring_from_two, number_ring_from_three, product_of-same, difference_of-same, IsSame-trans, IsSame-sym, IsSame-refl}
-use Rattle.surd_number.specs.Fits.{FitsOver, fits_same, fits_more, fits_unit, fits_times, fits_half_root, wide_from_fits}
+use Rattle.surd_number.specs.NumberLaws.{product_of-same, difference_of-same, IsSame-trans, IsSame-sym, IsSame-refl}
+use Rattle.surd_number.specs.FitsLaws.{fits_times, wide_from_fits}
 use Rattle.plane_geometry.specs.declared.Point.{Point}
 use Rattle.plane_geometry.specs.declared.Line.{Line}
 use Rattle.plane_geometry.specs.declared.meeting.MeetFault.{MeetFault}
 use Rattle.plane_geometry.specs.declared.meeting.MeetFault.TheVariants.{OutOfRange}
 use Rattle.plane_geometry.specs.Position.{Position, position_of, cross_of}
-use Rattle.plane_geometry.specs.Direction.{one, direction_vector}
+use Rattle.plane_geometry.specs.Direction.{direction_vector}
 use Rattle.plane_geometry.specs.LineView.{line_number, line_offset, IsOnLine, IsPoint, HasNoCommonPoint}
-use Rattle.plane_geometry.specs.MeetLaws.{meeting_of, meeting_on_first, meeting_on_second, meeting_only, on_line_offset, on_line_from_offset}
-
--- ---- products with sqrt 2 / 2
-
-pub wide_half_root : (most places : ℕ) (w : Number) → 2 * most ≤ 2 ^ 80 → places + 1 ≤ 20 → FitsOver most places w → IsWide (product_of w half_root)
-wide_half_root most places w few few_places f = wide_from_fits (2 * most) (places + 1) (product_of w half_root) few few_places (fits_half_root most places w f)
-
-pub half_root_fits : (most places : ℕ) (r w : Number) → IsSame r (product_of w half_root) → FitsOver most places w → FitsOver (2 * most) (places + 1) r
-half_root_fits most places r w e f = fits_same (2 * most) (places + 1) (product_of w half_root) r e (fits_half_root most places w f)
-
-pub no_half_root : (w : Number) → IsSame w (product_of w (power_of half_root 0))
-no_half_root w = number_ring (w ∷ []) v0 (v0 ⊗ con one) refl
-
-pub two_half_roots : (r z w : Number) → IsSame r (product_of z half_root) → IsSame z (product_of w half_root) → IsSame r (product_of w (power_of half_root 2))
-two_half_roots r z w e f =
-    number_ring_from_two (r ∷ z ∷ w ∷ []) v0 (v1 ⊗ con half_root) (con one) v1 (v2 ⊗ con half_root) (con half_root) v0 (v2 ⊗ (con half_root ⊗ (con half_root ⊗ con one))) refl e f
-
-pub three_half_roots : (r y z w : Number) → IsSame r (product_of y half_root) → IsSame y (product_of z half_root) → IsSame z (product_of w half_root) → IsSame r (product_of w (power_of half_root 3))
-three_half_roots r y z w e f g =
-    number_ring_from_three (r ∷ y ∷ z ∷ w ∷ []) v0 (v1 ⊗ con half_root) (con one) v1 (v2 ⊗ con half_root) (con half_root) v2 (v3 ⊗ con half_root) (con half_root ⊗ con half_root)
-    v0 (v3 ⊗ (con half_root ⊗ (con half_root ⊗ (con half_root ⊗ con one)))) refl e f g
+use Rattle.plane_geometry.specs.Common.{meeting_of}
+use Rattle.plane_geometry.specs.MeetLaws.{meeting_on_first, meeting_on_second, meeting_only, on_line_offset, on_line_from_offset}
 
 -- ---- quotients by units
 
-pub unit_product_fits : (i j : ℕ) (r w : Number) → i ≤ 1 → j ≤ 3 → IsSame r (product_of w (unit_of i j)) → FitsOver (2 ^ 60) 16 w → FitsOver (2 ^ 76) 16 r
-unit_product_fits i j r w few few_roots e f =
-    fits_more (8 * 2 ^ 60) (2 ^ 76) 16 r (lit≤ tt) (fits_same (8 * 2 ^ 60) 16 (product_of w (unit_of i j)) r e (fits_unit i j (2 ^ 60) 16 w few few_roots f))
+quotient_case : (c d : ℤ) (k : ℕ) (w : Number) → unsigned_abs c + 2 * unsigned_abs d ≤ 8 → k ≤ 4 → FitsOver (2 ^ 60) 16 w → IsWide (product_of w (record { a = c; b = d; k = k }))
+quotient_case c d k w few few_places f =
+    let size = unsigned_abs c + 2 * unsigned_abs d in
+    let bound : 2 ^ 60 * size ≤ 2 ^ 60 * 8 = mul-le (2 ^ 60) size (2 ^ 60) 8 (omega arith) few in
+    wide_from_fits (2 ^ 60 * size) (16 + k) (product_of w (record { a = c; b = d; k = k })) (omega arith) (omega arith) (fits_times (2 ^ 60) 16 c d k w f)
 
-pub wide_unit_product : (i j : ℕ) (w : Number) → i ≤ 1 → j ≤ 3 → FitsOver (2 ^ 60) 16 w → IsWide (product_of w (unit_of i j))
-wide_unit_product i j w few few_roots f = wide_from_fits (8 * 2 ^ 60) 16 (product_of w (unit_of i j)) (lit≤ tt) (lit≤ tt) (fits_unit i j (2 ^ 60) 16 w few few_roots f)
-
--- sqrt 2 + 1 is t + 2
-pub over_tangent_by : (r m n w : Number) → IsSame r (sum_of m n) → IsSame m (product_of w (unit_of 1 0)) → IsSame n (product_of w (unit_of 0 2)) → IsSame r (product_of w (record { a = pos 1; b = pos 1; k = 0 }))
-over_tangent_by r m n w e f g =
-    number_ring_from_three (r ∷ m ∷ n ∷ w ∷ []) v0 (v1 ⊕ v2) (con one) v1 (v3 ⊗ con (unit_of 1 0)) (con one) v2 (v3 ⊗ con (unit_of 0 2)) (con one)
-    v0 (v3 ⊗ con (record { a = pos 1; b = pos 1; k = 0 })) refl e f g
-
-pub over_tangent_fits : (r w : Number) → IsSame r (product_of w (record { a = pos 1; b = pos 1; k = 0 })) → FitsOver (2 ^ 60) 16 w → FitsOver (2 ^ 70) 16 r
-over_tangent_fits r w e f =
-    fits_more (3 * 2 ^ 60) (2 ^ 70) 16 r (lit≤ tt) (fits_same (3 * 2 ^ 60) 16 (product_of w (record { a = pos 1; b = pos 1; k = 0 })) r e (fits_times (2 ^ 60) 16 (pos 1) (pos 1) 0 w f))
-
-pub over_roots_only : (i j : ℕ) (r w : Number) → i ≡ 0 → IsSame r (product_of w (power_of half_root j)) → IsSame r (product_of w (unit_inverse_of i j))
-over_roots_only i j r w at e =
-    let P : ℕ → Type 0 = λ i. IsSame r (product_of w (unit_inverse_of i j)) in
-    let h = power_of half_root j in
-    subst P (sym at) (number_ring_from (r ∷ w ∷ h ∷ []) v0 (v1 ⊗ v2) (con one) v0 (v1 ⊗ (con one ⊗ v2)) refl e)
-
-pub over_both : (i j : ℕ) (r z w : Number) → i ≡ 1 → IsSame r (product_of z (power_of half_root j)) → IsSame z (product_of w (record { a = pos 1; b = pos 1; k = 0 })) → IsSame r (product_of w (unit_inverse_of i j))
-over_both i j r z w at e f =
-    let P : ℕ → Type 0 = λ i. IsSame r (product_of w (unit_inverse_of i j)) in
-    let h = power_of half_root j in
-    let t : Number = record { a = pos 1; b = pos 1; k = 0 } in
-    subst P (sym at) (number_ring_from_two (r ∷ z ∷ w ∷ h ∷ []) v0 (v1 ⊗ v3) (con one) v1 (v2 ⊗ con t) v3 v0 (v2 ⊗ ((con t ⊗ con one) ⊗ v3)) refl e f)
+-- the quotient of a coordinate by a unit is a Wide's
+pub wide_quotient : (i j : ℕ) (w : Number) → i ≤ 1 → j ≤ 3 → FitsOver (2 ^ 60) 16 w → IsWide (product_of w (unit_inverse_of i j))
+wide_quotient zero zero w few few_roots f = quotient_case (pos 1) (pos 0) 0 w (lit≤ tt) (lit≤ tt) f
+wide_quotient zero (suc zero) w few few_roots f = quotient_case (pos 0) (pos 1) 1 w (lit≤ tt) (lit≤ tt) f
+wide_quotient zero (suc (suc zero)) w few few_roots f = quotient_case (pos 2) (pos 0) 2 w (lit≤ tt) (lit≤ tt) f
+wide_quotient zero (suc (suc (suc zero))) w few few_roots f = quotient_case (pos 0) (pos 2) 3 w (lit≤ tt) (lit≤ tt) f
+wide_quotient zero (suc (suc (suc (suc j)))) w few few_roots f = absurd (omega arith)
+wide_quotient (suc zero) zero w few few_roots f = quotient_case (pos 1) (pos 1) 0 w (lit≤ tt) (lit≤ tt) f
+wide_quotient (suc zero) (suc zero) w few few_roots f = quotient_case (pos 2) (pos 1) 1 w (lit≤ tt) (lit≤ tt) f
+wide_quotient (suc zero) (suc (suc zero)) w few few_roots f = quotient_case (pos 2) (pos 2) 2 w (lit≤ tt) (lit≤ tt) f
+wide_quotient (suc zero) (suc (suc (suc zero))) w few few_roots f = quotient_case (pos 4) (pos 2) 3 w (lit≤ tt) (lit≤ tt) f
+wide_quotient (suc zero) (suc (suc (suc (suc j)))) w few few_roots f = absurd (omega arith)
+wide_quotient (suc (suc i)) j w few few_roots f = absurd (omega arith)
 
 -- ---- coordinates
 

@@ -1,14 +1,11 @@
 -- Bounds of the offsets of lines, and sides of lines.
-use Rattle.std.proofs.Common.{◌≡◌, ℕ, ◌+◌, ◌*◌, ◌^◌, ◌≤◌, unsigned_abs, refl, subst}
+use Rattle.std.proofs.Common.{◌≡◌, ℕ, ◌+◌, ◌*◌, ◌^◌, subst}
 use Rattle.std.proofs.Math.Logic.{∥∥₁_elim}
-use Rattle.std.proofs.Math.Bridge.{le_prop}
-use mathlib.Core.HLevel.{is_prop→PathP}
-use lib.IntN.{ℤ_set}
-use Rattle.surd_number.specs.Number.{Number, IsSame, difference_of, sign_of}
-use Rattle.surd_number.specs.NumberLaws.{IsSame-refl, IsSame-sym, IsSame-trans, aligned-same, difference_of-same}
+use Rattle.surd_number.specs.Number.{Number, IsSame, difference_of, sign_of, FitsOver}
+use Rattle.surd_number.specs.NumberLaws.{IsSame-refl, IsSame-trans, difference_of-same}
 use Rattle.surd_number.specs.SignLaws.{sign_of-same}
 use Rattle.surd_number.specs.Value.{number_of, wide_number_of}
-use Rattle.surd_number.specs.Fits.{FitsOver, fits_stored}
+use Rattle.surd_number.specs.FitsLaws.{fits_stored, fits_prop}
 use Rattle.plane_geometry.specs.declared.Point.{Point}
 use Rattle.plane_geometry.specs.declared.Line.{Line}
 use Rattle.plane_geometry.specs.Position.{Position, position_of, cross_of}
@@ -16,22 +13,6 @@ use Rattle.plane_geometry.specs.Direction.{direction_vector}
 use Rattle.plane_geometry.specs.LineStored.{PassesThroughPoint}
 use Rattle.plane_geometry.specs.LineView.{line_number, line_offset, side_of_line}
 use Rattle.plane_geometry.proofs.Wides.{cross_fits}
-
-same_prop : (x y : Number) → IsProp (IsSame x y)
-same_prop x y = hlevel ℤ_set
-
-fits_prop : (most places : ℕ) (x : Number) → IsProp (FitsOver most places x)
-fits_prop most places x f g =
-    let form_f : Number = record { a = f.a; b = f.b; k = places } in
-    let form_g : Number = record { a = g.a; b = g.b; k = places } in
-    let e = aligned-same form_f form_g refl (IsSame-trans form_f x form_g (IsSame-sym x form_f f.same) g.same) in
-    λ i. record {
-      a = e.0 i;
-      b = e.1 i;
-      same = is_prop→PathP (λ j. IsSame x (record { a = e.0 j; b = e.1 j; k = places })) (λ j. same_prop x (record { a = e.0 j; b = e.1 j; k = places })) f.same g.same i;
-      a_fits = is_prop→PathP (λ j. unsigned_abs (e.0 j) ≤ most) (λ j. le_prop) f.a_fits g.a_fits i;
-      b_fits = is_prop→PathP (λ j. unsigned_abs (e.1 j) ≤ most) (λ j. le_prop) f.b_fits g.b_fits i;
-    }
 
 -- the cross product of a direction with a point
 pub point_cross_fits : (n : ℕ) (p : Point) (r : Number) → IsSame r (cross_of (direction_vector n) (position_of p)) → FitsOver (3 * 2 ^ 52 + 3 * 2 ^ 52) 16 r

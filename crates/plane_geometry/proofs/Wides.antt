@@ -1,10 +1,10 @@
 -- What is computed with Wides: the values, and that they fit.
 use Rattle.std.proofs.Common.{◌≡◌, ℕ, zero, suc, ◌+◌, ◌-◌, ◌*◌, ◌^◌, ◌≤◌, Bool, true, false, cond, ltb, [], ◌∷◌, pos, refl, subst, arith, lit≤}
-use Rattle.surd_number.specs.Number.{Number, IsSame, IsCanonical, IsWithin, sum_of, difference_of, product_of, negative_of, tangent, unit_of}
+use Rattle.surd_number.specs.Number.{Number, IsSame, IsCanonical, IsWithin, sum_of, difference_of, product_of, negative_of, tangent, unit_of, FitsOver}
 use Rattle.surd_number.specs.Stored.{IsWide}
 use Rattle.surd_number.specs.RingTool.{◌⊝◌, ◌⊗◌, ⊖◌, con, v0, v1, v2}
 use Rattle.surd_number.specs.NumberLaws.{number_ring, number_ring_from, number_ring_from_two, sum_of-same, difference_of-same, product_of-same, IsSame-trans, IsSame-refl}
-use Rattle.surd_number.specs.Fits.{FitsOver, fits_same, fits_more, fits_sum, fits_difference, fits_negative, fits_tangent, within_from_fits, wide_from_fits}
+use Rattle.surd_number.specs.FitsLaws.{fits_same, fits_more, fits_sum, fits_difference, fits_negative, fits_tangent, within_from_fits, wide_from_fits}
 use Rattle.plane_geometry.specs.declared.sides.Part.{Part}
 use Rattle.plane_geometry.specs.declared.sides.Part.TheVariants.{Nought, One, Tangent, MinusOne, MinusTangent}
 use Rattle.plane_geometry.specs.Position.{Position, vector_of, opposite_of, cross_of, dot_of}
@@ -126,8 +126,8 @@ dot_by r m n d x y p q e f g h k =
     IsSame-trans r (sum_of m n) (sum_of (product_of d.x x) (product_of d.y y)) k to_d
 
 -- small enough to tell the sign of
-pub sgn_fits : (most : ℕ) (x : Number) → IsCanonical x → most ≤ 2 ^ 60 → FitsOver most 16 x → IsWithin 60 20 x
-sgn_fits most x least few f = within_from_fits most 16 60 20 x least few (lit≤ tt) f
+pub sgn_fits : (most : ℕ) (x : Number) → IsCanonical x → most ≤ 2 ^ 63 → FitsOver most 16 x → IsWithin 63 20 x
+sgn_fits most x least few f = within_from_fits most 16 63 20 x least few (lit≤ tt) f
 
 -- products with a difference of points
 pub cross_from_differences : (r : Number) (d p q : Position) (x y : Number) → IsSame x (difference_of q.x p.x) → IsSame y (difference_of q.y p.y) → IsSame r (cross_of d (record { x = x; y = y })) → IsSame r (cross_of d (vector_of p q))

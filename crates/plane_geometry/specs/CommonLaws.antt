@@ -1,76 +1,53 @@
 -- The common point of the lines of two stretches is on both of them, and no other point is.
-use Rattle.std.proofs.Common.{◌≡◌, ℕ, ◌<◌, ◌%◌, ◌+◌, inl, inr, Bool, true, false, cond, [], ◌∷◌, pos, refl, sym, ap, ap₂, subst, ◌∙◌, arith}
+use Rattle.std.proofs.Common.{◌≡◌, ℕ, ◌<◌, ◌%◌, ◌+◌, inl, inr, Bool, true, false, cond, refl, sym, ap, ap₂, subst, ◌∙◌, arith}
 use Rattle.std.specs.Prelude.{Option, None, Some, nat_eq, nat_lt}
 use Rattle.std.proofs.lemmas.Bool.{cases_lt, lt-ltb, ltb-true, eqb-false, false≢true}
 use Rattle.surd_number.specs.declared.Surd.{Surd}
 use Rattle.surd_number.specs.declared.Sgn.{Sgn}
 use Rattle.surd_number.specs.declared.Sgn.TheVariants.{Neg, Zero, Pos}
-use Rattle.surd_number.specs.Number.{IsSame, whole, difference_of, product_of, negative_of, sign_of, unit_of, unit_inverse_of}
-use Rattle.surd_number.specs.RingTool.{◌⊝◌, ◌⊗◌, con, v0, v1, v2, v3, v4, v5}
-use Rattle.surd_number.specs.NumberLaws.{number_ring, number_ring_from_two, same_from_difference, difference_from_same, IsSame-trans, IsSame-sym, unit_of-inverse}
-use Rattle.surd_number.specs.SignLaws.{opposite_sign, sign_of-zero, zero_sign_of, sign_of-same, sign_of-negative}
+use Rattle.surd_number.specs.Number.{IsSame, difference_of, negative_of, sign_of, unit_inverse_of}
+use Rattle.surd_number.specs.NumberLaws.{difference_from_same, IsSame-trans, IsSame-sym}
+use Rattle.surd_number.specs.SignLaws.{opposite_sign, zero_sign_of, sign_of-same, sign_of-negative}
 use Rattle.surd_number.specs.Value.{number_of}
-use Rattle.surd_number.specs.Answer.{surd_of, surd_of-is, surd_of-value}
+use Rattle.surd_number.specs.Exact.{surd_of}
+use Rattle.surd_number.specs.ExactLaws.{surd_of-is, surd_of-value}
 use Rattle.plane_geometry.specs.declared.Point.{Point}
 use Rattle.plane_geometry.specs.Position.{Position, position_of, vector_of, opposite_of, cross_of}
 use Rattle.plane_geometry.specs.Direction.{direction_vector, side_of}
 use Rattle.plane_geometry.specs.CrossTable.{cross_tangents, cross_roots}
-use Rattle.plane_geometry.specs.CrossLaws.{direction_cross, cross_opposite}
+use Rattle.plane_geometry.specs.CrossLaws.{cross_opposite}
 use Rattle.plane_geometry.specs.DirectionLaws.{opposite_direction}
 use Rattle.plane_geometry.specs.SideLaws.{then_sign, order_of, side_same}
 use Rattle.plane_geometry.specs.StretchLaws.{side_to}
-use Rattle.plane_geometry.specs.MeetLaws.{meets_first, meets_second, only_x, only_y}
+use Rattle.plane_geometry.specs.MeetLaws.{offset_from_side, side_from_offset, meets_first, meets_second, only_x, only_y, unit_is_inverse}
 use Rattle.plane_geometry.specs.Stretch.{Stretch}
 use Rattle.plane_geometry.specs.Common.{is_parallel, lines_meet_at, crossing_of, both_of, point_at, common_of}
 
--- ---- offsets of lines by points on them
-
--- on the line through p in direction n exactly where the cross products are the same
-pub offset_from_side : (p : Position) (n : ℕ) (v : Position) → side_of p n v ≡ Zero → IsSame (cross_of (direction_vector n) v) (cross_of (direction_vector n) p)
-offset_from_side p n v e =
-    let d = direction_vector n in
-    let x = cross_of d (vector_of p v) in
-    let y = difference_of (cross_of d v) (cross_of d p) in
-    let same : IsSame y x = number_ring (d.x ∷ d.y ∷ p.x ∷ p.y ∷ v.x ∷ v.y ∷ []) ((v0 ⊗ v5 ⊝ v1 ⊗ v4) ⊝ (v0 ⊗ v3 ⊝ v1 ⊗ v2)) (v0 ⊗ (v5 ⊝ v3) ⊝ v1 ⊗ (v4 ⊝ v2)) refl in
-    same_from_difference (cross_of d v) (cross_of d p) (sign_of-zero y (sign_of-same y x same ∙ e))
-
-pub side_from_offset : (p : Position) (n : ℕ) (v : Position) → IsSame (cross_of (direction_vector n) v) (cross_of (direction_vector n) p) → side_of p n v ≡ Zero
-side_from_offset p n v e =
-    let d = direction_vector n in
-    let x = cross_of d (vector_of p v) in
-    let y = difference_of (cross_of d v) (cross_of d p) in
-    let same : IsSame x y = number_ring (d.x ∷ d.y ∷ p.x ∷ p.y ∷ v.x ∷ v.y ∷ []) (v0 ⊗ (v5 ⊝ v3) ⊝ v1 ⊗ (v4 ⊝ v2)) ((v0 ⊗ v5 ⊝ v1 ⊗ v4) ⊝ (v0 ⊗ v3 ⊝ v1 ⊗ v2)) refl in
-    sign_of-same x y same ∙ zero_sign_of y (difference_from_same (cross_of d v) (cross_of d p) e)
-
 -- ---- lines in directions 0 to 7
 
+-- where the line through p in direction m meets the line through q in direction n
+abbrev meet_at : Position → ℕ → Position → ℕ → Position
+meet_at p m q n = lines_meet_at m (cross_of (direction_vector m) p) n (cross_of (direction_vector n) q)
+
 module _ (p : Position) (m : ℕ) (q : Position) (n : ℕ) (less : m < n) (few : n < 8) where
-  inverse_is : IsSame (product_of (cross_of (direction_vector m) (direction_vector n)) (unit_inverse_of (cross_tangents m n) (cross_roots m n))) (whole (pos 1))
-  inverse_is =
-      let i = cross_tangents m n in
-      let j = cross_roots m n in
-      let c = cross_of (direction_vector m) (direction_vector n) in
-      number_ring_from_two (c ∷ unit_of i j ∷ unit_inverse_of i j ∷ []) v0 v1 v2 (v1 ⊗ v2) (con (whole (pos 1))) (con (whole (pos 1))) (v0 ⊗ v2) (con (whole (pos 1))) refl
-      (direction_cross m n less few) (unit_of-inverse i j)
-
-  pub meet_in_first : side_of p m (lines_meet_at p m q n) ≡ Zero
+  pub meet_in_first : side_of p m (meet_at p m q n) ≡ Zero
   meet_in_first =
-      side_from_offset p m (lines_meet_at p m q n)
-      (meets_first (direction_vector m) (cross_of (direction_vector m) p) (direction_vector n) (cross_of (direction_vector n) q) (unit_inverse_of (cross_tangents m n) (cross_roots m n)) inverse_is)
+      side_from_offset p m (meet_at p m q n)
+      (meets_first (direction_vector m) (cross_of (direction_vector m) p) (direction_vector n) (cross_of (direction_vector n) q) (unit_inverse_of (cross_tangents m n) (cross_roots m n)) (unit_is_inverse m n less few))
 
-  pub meet_in_second : side_of q n (lines_meet_at p m q n) ≡ Zero
+  pub meet_in_second : side_of q n (meet_at p m q n) ≡ Zero
   meet_in_second =
-      side_from_offset q n (lines_meet_at p m q n)
-      (meets_second (direction_vector m) (cross_of (direction_vector m) p) (direction_vector n) (cross_of (direction_vector n) q) (unit_inverse_of (cross_tangents m n) (cross_roots m n)) inverse_is)
+      side_from_offset q n (meet_at p m q n)
+      (meets_second (direction_vector m) (cross_of (direction_vector m) p) (direction_vector n) (cross_of (direction_vector n) q) (unit_inverse_of (cross_tangents m n) (cross_roots m n)) (unit_is_inverse m n less few))
 
-  pub meet_only : (v : Position) → side_of p m v ≡ Zero → side_of q n v ≡ Zero → IsSame v.x (lines_meet_at p m q n).x × IsSame v.y (lines_meet_at p m q n).y
+  pub meet_only : (v : Position) → side_of p m v ≡ Zero → side_of q n v ≡ Zero → IsSame v.x (meet_at p m q n).x × IsSame v.y (meet_at p m q n).y
   meet_only v e f =
       let d = direction_vector m in
       let o = cross_of d p in
       let d' = direction_vector n in
       let u = cross_of d' q in
       let i = unit_inverse_of (cross_tangents m n) (cross_roots m n) in
-      (only_x d o d' u i v inverse_is (offset_from_side p m v e) (offset_from_side q n v f), only_y d o d' u i v inverse_is (offset_from_side p m v e) (offset_from_side q n v f))
+      (only_x d o d' u i v (unit_is_inverse m n less few) (offset_from_side p m v e) (offset_from_side q n v f), only_y d o d' u i v (unit_is_inverse m n less few) (offset_from_side p m v e) (offset_from_side q n v f))
 
 -- ---- directions modulo 8
 
@@ -143,16 +120,16 @@ module _ (s u : Stretch) (h : s.dir < 16) (k : u.dir < 16) (apart : is_parallel 
   crossing_meets : Meets (crossing_of s u)
   crossing_meets = go (nat_lt (s.dir % 8) (u.dir % 8)) refl
     where
-      go : (b : Bool) → nat_lt (s.dir % 8) (u.dir % 8) ≡ b → Meets (cond b (lines_meet_at s.from (s.dir % 8) u.from (u.dir % 8)) (lines_meet_at u.from (u.dir % 8) s.from (s.dir % 8)))
+      go : (b : Bool) → nat_lt (s.dir % 8) (u.dir % 8) ≡ b → Meets (cond b (meet_at s.from (s.dir % 8) u.from (u.dir % 8)) (meet_at u.from (u.dir % 8) s.from (s.dir % 8)))
       go true e =
           let less : s.dir % 8 < u.dir % 8 = ltb-true (s.dir % 8) (u.dir % 8) e in
-          let v = lines_meet_at s.from (s.dir % 8) u.from (u.dir % 8) in
+          let v = meet_at s.from (s.dir % 8) u.from (u.dir % 8) in
           meets
           (side_from_modulo s.from s.dir v h (meet_in_first s.from (s.dir % 8) u.from (u.dir % 8) less (omega arith)), side_from_modulo u.from u.dir v k (meet_in_second s.from (s.dir % 8) u.from (u.dir % 8) less (omega arith)))
           (λ w on. meet_only s.from (s.dir % 8) u.from (u.dir % 8) less (omega arith) w (side_modulo s.from s.dir w h on.0) (side_modulo u.from u.dir w k on.1))
       go false e =
           let less : u.dir % 8 < s.dir % 8 = later (s.dir % 8) (u.dir % 8) apart e in
-          let v = lines_meet_at u.from (u.dir % 8) s.from (s.dir % 8) in
+          let v = meet_at u.from (u.dir % 8) s.from (s.dir % 8) in
           meets
           (side_from_modulo s.from s.dir v h (meet_in_second u.from (u.dir % 8) s.from (s.dir % 8) less (omega arith)), side_from_modulo u.from u.dir v k (meet_in_first u.from (u.dir % 8) s.from (s.dir % 8) less (omega arith)))
           (λ w on. meet_only u.from (u.dir % 8) s.from (s.dir % 8) less (omega arith) w (side_modulo u.from u.dir w k on.1) (side_modulo s.from s.dir w h on.0))

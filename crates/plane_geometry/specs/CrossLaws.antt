@@ -9,7 +9,7 @@ use Rattle.surd_number.specs.SignLaws.{opposite_sign, sign_of-same, sign_of-nega
 use Rattle.plane_geometry.specs.Position.{Position, opposite_of, cross_of}
 use Rattle.plane_geometry.specs.Direction.{direction_vector, upper_vector}
 use Rattle.plane_geometry.specs.CrossTable.{cross_tangents, cross_roots}
-use Rattle.plane_geometry.specs.SideLaws.{turn_of}
+use Rattle.plane_geometry.specs.SideLaws.{turn_sign}
 
 -- ---- the table
 
@@ -136,5 +136,5 @@ zero_or_unit u v f g =
     ]
 
 -- the cross product of two directions that are not parallel has an inverse
-pub turn_inverse : (m n : ℕ) → turn_of m n ≢ Zero → HasInverse (cross_of (direction_vector m) (direction_vector n))
+pub turn_inverse : (m n : ℕ) → turn_sign m n ≢ Zero → HasInverse (cross_of (direction_vector m) (direction_vector n))
 turn_inverse m n turns = zero_or_unit (direction_vector m) (direction_vector n) (direction_form m) (direction_form n) turns

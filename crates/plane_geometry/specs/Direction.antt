@@ -1,5 +1,5 @@
 -- The 16 directions in steps of 22.5 degrees, counterclockwise from the x axis. Direction n + 8 is opposite to n.
-use Rattle.std.specs.Prelude.{ℕ, zero, suc, ◌-◌, ◌+◌, pos, Bool, true, false, ◌&&◌, Option, None, Some, nat_lt, if◌then◌else◌}
+use Rattle.std.specs.Prelude.{ℕ, zero, suc, ◌-◌, ◌+◌, ◌%◌, pos, Bool, true, false, ◌&&◌, Option, None, Some, nat_lt, if◌then◌else◌}
 use Rattle.surd_number.specs.declared.Sgn.{Sgn}
 use Rattle.surd_number.specs.declared.Sgn.TheVariants.{Neg, Zero, Pos}
 use Rattle.surd_number.specs.Number.{Number, whole, tangent, negative_of, sign_of}
@@ -24,6 +24,13 @@ upper_vector (suc (suc (suc (suc (suc (suc (suc n))))))) = record { x = negative
 
 abbrev pub direction_vector : ℕ → Position
 direction_vector n = if nat_lt n 8 then upper_vector n else opposite_of (upper_vector (n - 8))
+
+abbrev pub opposite_number : ℕ → ℕ
+opposite_number n = (n + 8) % 16
+
+-- how direction n turns from direction m: Pos to the left
+abbrev pub turn_sign : ℕ → ℕ → Sgn
+turn_sign m n = sign_of (cross_of (direction_vector m) (direction_vector n))
 
 -- on which side of the line through q in direction n the point p is: Pos is strictly left
 abbrev pub side_of : Position → ℕ → Position → Sgn

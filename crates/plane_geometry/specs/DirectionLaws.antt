@@ -1,6 +1,6 @@
 -- Laws of directions: from one point to another it goes in one direction at most, back in the opposite one, and it goes in
 -- a direction exactly where the difference of the points is a positive multiple of it.
-use Rattle.std.proofs.Common.{◌≡◌, ◌↔◌, ℕ, zero, suc, ◌+◌, ◌-◌, ◌%◌, ◌<◌, ◌≤◌, Bool, true, false, cond, not, ◌&&◌, ◌||◌, ltb, eqb, inl, inr, None, Some, [], ◌∷◌, pos, refl, sym, ap, ap₂, ◌∙◌, arith}
+use Rattle.std.proofs.Common.{◌≡◌, ◌↔◌, ℕ, zero, suc, ◌+◌, ◌-◌, ◌<◌, ◌≤◌, Bool, true, false, cond, not, ◌&&◌, ◌||◌, ltb, eqb, inl, inr, None, Some, [], ◌∷◌, pos, refl, sym, ap, ap₂, ◌∙◌, arith}
 use Rattle.std.proofs.lemmas.Bool.{agree_below, agree_below_at, and_parts, and_from, lt-ltb, le-ltb, eqb-true, cases_lt}
 use Rattle.surd_number.specs.declared.Sgn.TheVariants.{Zero, Pos}
 use Rattle.surd_number.specs.Number.{Number, IsSame, whole, product_of, sign_of}
@@ -9,15 +9,16 @@ use Rattle.surd_number.specs.NumberLaws.{number_ring, number_ring_from, number_r
 use Rattle.surd_number.specs.SignLaws.{times_sign, sign_of-same, sign_of-product, sign_of-zero}
 use Rattle.plane_geometry.specs.Position.{Position, vector_of, opposite_of, cross_of, dot_of}
 use Rattle.plane_geometry.specs.Direction.{direction_vector, upper_vector, side_of, is_zero, is_positive, is_along, direction_among, direction_of}
+pub use Rattle.plane_geometry.specs.Direction.{opposite_number}
 use Rattle.plane_geometry.specs.Multiple.{IsPositiveMultiple}
-use Rattle.plane_geometry.specs.SideLaws.{square_sign, along_cross, along_dot, turn_of}
+use Rattle.plane_geometry.specs.SideLaws.{square_sign, along_cross, along_dot, turn_sign}
 use Rattle.plane_geometry.specs.StretchLaws.{zero_is, positive_is}
 
 -- ---- one direction at most
 
 -- directions m and n are one, or not parallel, or opposite
 tells : ℕ → ℕ → Bool
-tells m n = not (is_zero (turn_of n m) && is_positive (sign_of (dot_of (direction_vector n) (direction_vector m)))) || eqb m n
+tells m n = not (is_zero (turn_sign n m) && is_positive (sign_of (dot_of (direction_vector n) (direction_vector m)))) || eqb m n
 
 table_tells : agree_below (λ m. agree_below (tells m) (λ _. true) 16) (λ _. true) 16 ≡ true
 unfolding tells
@@ -41,17 +42,14 @@ along_unique m n p q few_m few_n e f =
     let w = vector_of p q in
     let a = along_parts m p q e in
     let b = along_parts n p q f in
-    let parallel : turn_of n m ≡ Zero =
-    ap (λ t. times_sign t (turn_of n m)) (sym a.1) ∙ sym (along_cross d w (square_sign m) a.0 (direction_vector n)) ∙ b.0 in
+    let parallel : turn_sign n m ≡ Zero =
+    ap (λ t. times_sign t (turn_sign n m)) (sym a.1) ∙ sym (along_cross d w (square_sign m) a.0 (direction_vector n)) ∙ b.0 in
     let not_opposite : sign_of (dot_of (direction_vector n) d) ≡ Pos =
     ap (λ t. times_sign t (sign_of (dot_of (direction_vector n) d))) (sym a.1) ∙ sym (along_dot d w (square_sign m) a.0 (direction_vector n)) ∙ b.1 in
-    let same : (is_zero (turn_of n m) && is_positive (sign_of (dot_of (direction_vector n) d))) ≡ true = and_from _ _ (ap is_zero parallel) (ap is_positive not_opposite) in
+    let same : (is_zero (turn_sign n m) && is_positive (sign_of (dot_of (direction_vector n) d))) ≡ true = and_from _ _ (ap is_zero parallel) (ap is_positive not_opposite) in
     eqb-true m n (ap (λ b. not b || eqb m n) (sym same) ∙ tells_at m n few_m few_n)
 
 -- ---- the opposite direction
-
-abbrev pub opposite_number : ℕ → ℕ
-opposite_number n = (n + 8) % 16
 
 upper_case : (n : ℕ) → n < 8 → direction_vector n ≡ upper_vector n
 upper_case n few = ap (λ b. cond b (upper_vector n) (opposite_of (upper_vector (n - 8)))) (lt-ltb n 8 few)

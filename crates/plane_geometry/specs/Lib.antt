@@ -7,7 +7,9 @@ pub mod Stored
 pub mod SegmentView
 pub mod LineStored
 pub mod LineView
+pub mod Order
 pub mod SegmentOf
+pub mod Common
 pub mod Multiple
 pub mod CrossTable
 pub mod SideLaws
@@ -17,8 +19,8 @@ pub mod DirLaws
 pub mod Ends
 pub mod SegmentLaws
 pub mod CrossLaws
-pub mod CommonPoints
+pub mod CommonPointLaws
 pub mod MeetLaws
-pub mod LineLaws
-pub mod Common
 pub mod CommonLaws
+pub mod LineLaws
+pub mod OrderLaws

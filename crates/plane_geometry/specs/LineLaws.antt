@@ -15,13 +15,13 @@ use Rattle.plane_geometry.specs.Position.{Position, vector_of, cross_of, dot_of}
 use Rattle.plane_geometry.specs.Direction.{direction_vector, side_of, is_zero}
 use Rattle.plane_geometry.specs.LineStored.{PassesThroughPoint}
 use Rattle.plane_geometry.specs.LineView.{line_number, line_offset, HaveSamePoints}
-use Rattle.plane_geometry.specs.SideLaws.{turn_of}
+use Rattle.plane_geometry.specs.SideLaws.{turn_sign}
 use Rattle.plane_geometry.specs.DirectionLaws.{square_inverse}
 use Rattle.plane_geometry.specs.MeetLaws.{on_line_offset, on_line_from_offset}
 
 -- ---- parts
 
-line_from_parts : (l m : Line) → line_number l ≡ line_number m → line_offset l ≡ line_offset m → l ≡ m
+pub line_from_parts : (l m : Line) → line_number l ≡ line_number m → line_offset l ≡ line_offset m → l ≡ m
 line_from_parts l m e f =
     λ i. record {
       direction = e i;
@@ -33,14 +33,14 @@ line_from_parts l m e f =
 -- ---- parallel directions
 
 tells_parallel : ℕ → ℕ → Bool
-tells_parallel m n = not (is_zero (turn_of m n)) || eqb m n
+tells_parallel m n = not (is_zero (turn_sign m n)) || eqb m n
 
 table_parallel : agree_below (λ m. agree_below (tells_parallel m) (λ _. true) 8) (λ _. true) 8 ≡ true
 unfolding tells_parallel
 table_parallel = refl
 
 -- of the directions 0 to 7 no two are parallel
-pub parallel_is : (m n : ℕ) → m < 8 → n < 8 → turn_of m n ≡ Zero → m ≡ n
+pub parallel_is : (m n : ℕ) → m < 8 → n < 8 → turn_sign m n ≡ Zero → m ≡ n
 unfolding tells_parallel
 parallel_is m n few_m few_n e =
     eqb-true m n (ap (λ s. not (is_zero s) || eqb m n) (sym e) ∙ agree_below_at (tells_parallel m) (λ _. true) 8 n (agree_below_at (λ m. agree_below (tells_parallel m) (λ _. true) 8) (λ _. true) 8 m table_parallel few_m) few_n)
@@ -93,7 +93,7 @@ line_is l m = (to, from)
         let on_l : IsSame (cross_of d p) o = foot_offset d o inverse.0 inverse.1 in
         let on_m : IsSame (cross_of e p) u = on_line_offset m p ((same p).0 (on_line_from_offset l p on_l)) in
         let next_m : IsSame (cross_of e (beyond p d)) u = on_line_offset m (beyond p d) ((same (beyond p d)).0 (on_line_from_offset l (beyond p d) (beyond_offset d p o on_l))) in
-        let parallel : turn_of k n ≡ Zero = sign_of-same (cross_of e d) (whole (pos 0)) (two_points_cross e d p u on_m next_m) in
+        let parallel : turn_sign k n ≡ Zero = sign_of-same (cross_of e d) (whole (pos 0)) (two_points_cross e d p u on_m next_m) in
         let numbers : n ≡ k = sym (parallel_is k n (omega (arith, m.in_range)) (omega (arith, l.in_range)) parallel) in
         let on_m' : IsSame (cross_of d p) u = subst (λ j. IsSame (cross_of (direction_vector j) p) u) (sym numbers) on_m in
         let offsets : line_offset l ≡ line_offset m = wide_is (line_offset l) (line_offset m) (IsSame-trans o (cross_of d p) u (IsSame-sym (cross_of d p) o on_l) on_m') in

@@ -1,17 +1,19 @@
 -- The common point of two lines, and that it is the only one.
-use Rattle.std.proofs.Common.{◌≡◌, ℕ, ◌<◌, ◌≤◌, true, [], ◌∷◌, pos, leb, leb-true, refl, arith}
+use Rattle.std.proofs.Common.{◌≡◌, ℕ, ◌<◌, ◌≤◌, true, [], ◌∷◌, pos, leb, leb-true, refl, ◌∙◌, arith}
 use Rattle.std.proofs.lemmas.Bool.{agree_below, agree_below_at}
 use Rattle.surd_number.specs.Number.{Number, IsSame, whole, difference_of, product_of, unit_of, unit_inverse_of}
 use Rattle.surd_number.specs.RingTool.{◌⊝◌, ◌⊗◌, ⊖◌, con, v0, v1, v2, v3, v4, v5, v6, v7, v8}
-use Rattle.surd_number.specs.NumberLaws.{number_ring_from, number_ring_from_two, number_ring_from_three, same_from_difference, difference_from_same, unit_of-inverse}
-use Rattle.surd_number.specs.SignLaws.{sign_of-zero, zero_sign_of}
+use Rattle.surd_number.specs.NumberLaws.{number_ring, number_ring_from, number_ring_from_two, number_ring_from_three, same_from_difference, difference_from_same, unit_of-inverse}
+use Rattle.surd_number.specs.SignLaws.{sign_of-same, sign_of-zero, zero_sign_of}
+use Rattle.surd_number.specs.declared.Sgn.TheVariants.{Zero}
 use Rattle.surd_number.specs.Value.{wide_number_of}
 use Rattle.plane_geometry.specs.declared.Line.{Line}
-use Rattle.plane_geometry.specs.Position.{Position, cross_of}
-use Rattle.plane_geometry.specs.Direction.{direction_vector}
+use Rattle.plane_geometry.specs.Position.{Position, vector_of, cross_of}
+use Rattle.plane_geometry.specs.Direction.{direction_vector, side_of}
 use Rattle.plane_geometry.specs.CrossTable.{cross_tangents, cross_roots}
 use Rattle.plane_geometry.specs.CrossLaws.{direction_cross}
 use Rattle.plane_geometry.specs.LineView.{line_number, line_offset, IsOnLine}
+use Rattle.plane_geometry.specs.Common.{meeting_point, meeting_of}
 
 -- the powers in the table are small
 few_tangents : agree_below (λ m. agree_below (λ n. leb (cross_tangents m n) 1) (λ _. true) 8) (λ _. true) 8 ≡ true
@@ -39,16 +41,26 @@ on_line_from_offset l p e =
     let o = wide_number_of (line_offset l) in
     zero_sign_of (difference_of cross o) (difference_from_same cross o e)
 
--- the common point of the lines in directions d and e with the offsets o and u, by the inverse i of the cross product of d and e
-abbrev pub meeting_point : Position → Number → Position → Number → Number → Position
-meeting_point d o e u i =
-    record { x = product_of (difference_of (product_of e.x o) (product_of d.x u)) i; y = product_of (difference_of (product_of e.y o) (product_of d.y u)) i }
+-- ---- offsets of lines by points on them
 
--- the common point of a line and one of a later direction
-abbrev pub meeting_of : Line → Line → Position
-meeting_of l m =
-    meeting_point (direction_vector (line_number l)) (wide_number_of (line_offset l)) (direction_vector (line_number m)) (wide_number_of (line_offset m))
-    (unit_inverse_of (cross_tangents (line_number l) (line_number m)) (cross_roots (line_number l) (line_number m)))
+-- on the line through p in direction n exactly where the cross products are the same
+pub offset_from_side : (p : Position) (n : ℕ) (v : Position) → side_of p n v ≡ Zero → IsSame (cross_of (direction_vector n) v) (cross_of (direction_vector n) p)
+offset_from_side p n v e =
+    let d = direction_vector n in
+    let x = cross_of d (vector_of p v) in
+    let y = difference_of (cross_of d v) (cross_of d p) in
+    let same : IsSame y x = number_ring (d.x ∷ d.y ∷ p.x ∷ p.y ∷ v.x ∷ v.y ∷ []) ((v0 ⊗ v5 ⊝ v1 ⊗ v4) ⊝ (v0 ⊗ v3 ⊝ v1 ⊗ v2)) (v0 ⊗ (v5 ⊝ v3) ⊝ v1 ⊗ (v4 ⊝ v2)) refl in
+    same_from_difference (cross_of d v) (cross_of d p) (sign_of-zero y (sign_of-same y x same ∙ e))
+
+pub side_from_offset : (p : Position) (n : ℕ) (v : Position) → IsSame (cross_of (direction_vector n) v) (cross_of (direction_vector n) p) → side_of p n v ≡ Zero
+side_from_offset p n v e =
+    let d = direction_vector n in
+    let x = cross_of d (vector_of p v) in
+    let y = difference_of (cross_of d v) (cross_of d p) in
+    let same : IsSame x y = number_ring (d.x ∷ d.y ∷ p.x ∷ p.y ∷ v.x ∷ v.y ∷ []) (v0 ⊗ (v5 ⊝ v3) ⊝ v1 ⊗ (v4 ⊝ v2)) ((v0 ⊗ v5 ⊝ v1 ⊗ v4) ⊝ (v0 ⊗ v3 ⊝ v1 ⊗ v2)) refl in
+    sign_of-same x y same ∙ zero_sign_of y (difference_from_same (cross_of d v) (cross_of d p) e)
+
+-- ---- the common point
 
 pub meets_first : (d : Position) (o : Number) (e : Position) (u i : Number) → IsSame (product_of (cross_of d e) i) (whole (pos 1)) → IsSame (cross_of d (meeting_point d o e u i)) o
 meets_first d o e u i h =
@@ -76,14 +88,22 @@ only_y d o e u i q h f g =
     (v2 ⊗ v5 ⊝ v3 ⊗ v4) v7 (⊖ (v1 ⊗ v8))
     v5 ((v3 ⊗ v6 ⊝ v1 ⊗ v7) ⊗ v8) refl h f g
 
+-- ---- lines in directions 0 to 7
+
+pub unit_is_inverse : (m n : ℕ) → m < n → n < 8 → IsSame (product_of (cross_of (direction_vector m) (direction_vector n)) (unit_inverse_of (cross_tangents m n) (cross_roots m n))) (whole (pos 1))
+unit_is_inverse m n less few =
+    let i = cross_tangents m n in
+    let j = cross_roots m n in
+    let c = cross_of (direction_vector m) (direction_vector n) in
+    number_ring_from_two (c ∷ unit_of i j ∷ unit_inverse_of i j ∷ []) v0 v1 v2 (v1 ⊗ v2) (con (whole (pos 1))) (con (whole (pos 1))) (v0 ⊗ v2) (con (whole (pos 1))) refl
+    (direction_cross m n less few) (unit_of-inverse i j)
+
 module _ (l m : Line) (less : line_number l < line_number m) where
+  few : line_number m < 8
+  few = omega (arith, m.in_range)
+
   table_inverse : IsSame (product_of (cross_of (direction_vector (line_number l)) (direction_vector (line_number m))) (unit_inverse_of (cross_tangents (line_number l) (line_number m)) (cross_roots (line_number l) (line_number m)))) (whole (pos 1))
-  table_inverse =
-      let i = cross_tangents (line_number l) (line_number m) in
-      let j = cross_roots (line_number l) (line_number m) in
-      let c = cross_of (direction_vector (line_number l)) (direction_vector (line_number m)) in
-      number_ring_from_two (c ∷ unit_of i j ∷ unit_inverse_of i j ∷ []) v0 v1 v2 (v1 ⊗ v2) (con (whole (pos 1))) (con (whole (pos 1))) (v0 ⊗ v2) (con (whole (pos 1))) refl
-      (direction_cross (line_number l) (line_number m) less (omega (arith, m.in_range))) (unit_of-inverse i j)
+  table_inverse = unit_is_inverse (line_number l) (line_number m) less few
 
   -- on both lines
   pub meeting_on_first : IsOnLine (meeting_of l m) l

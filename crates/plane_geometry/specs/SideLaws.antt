@@ -8,6 +8,7 @@ use Rattle.surd_number.specs.Number.{Number, IsSame, whole, sum_of, difference_o
 use Rattle.surd_number.specs.RingTool.{◌⊕◌, ◌⊝◌, ◌⊗◌, ⊖◌, con, v0, v1, v2, v3, v4, v5, v6, v7}
 use Rattle.plane_geometry.specs.Position.{Position, vector_of, opposite_of, cross_of, dot_of, compare_positions}
 use Rattle.plane_geometry.specs.Direction.{direction_vector, upper_vector, side_of}
+pub use Rattle.plane_geometry.specs.Direction.{turn_sign}
 use Rattle.surd_number.specs.NumberLaws.{number_ring}
 use Rattle.surd_number.specs.SignLaws.{opposite_sign, times_sign, sign_of-same, sign_of-negative, sign_of-product, sign_of-sum_positive, sign_of-sum_negative, sign_of-sum_zero, sign_of-sum_zero_right}
 
@@ -296,7 +297,3 @@ module _ (d w : Position) (square : sign_of (dot_of d d) ≡ Pos) (along : sign_
       ((v0 ⊗ v2 ⊕ v1 ⊗ v3) ⊗ (v4 ⊗ v0 ⊕ v5 ⊗ v1) ⊕ (v0 ⊗ v3 ⊝ v1 ⊗ v2) ⊗ (v0 ⊗ v5 ⊝ v1 ⊗ v4)) refl)
       ∙ sign_without (product_of (dot_of d w) (dot_of e d)) (product_of (cross_of d w) (cross_of d e)) (product_of_zero (cross_of d w) (cross_of d e) along)
       ∙ sign_of-product (dot_of d w) (dot_of e d)
-
--- how direction n turns from direction m: Pos to the left
-abbrev pub turn_of : ℕ → ℕ → Sgn
-turn_of m n = sign_of (cross_of (direction_vector m) (direction_vector n))

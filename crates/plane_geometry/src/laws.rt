@@ -1,14 +1,17 @@
 //! Laws of the definitions that the other contracts cite. Each is the contract of a function that does nothing.
 
 ghost use Rattle.std.specs.Prelude.{◌≡◌, ℕ, ◌+◌, ◌<◌, ◌↔◌, IsTrue};
+ghost use Rattle.std.specs.declared.cmp.Ordering.TheVariants.{Equal};
 ghost use Rattle.surd_number.specs.Number.{IsSame, unit_of};
+ghost use Rattle.plane_geometry.specs.declared.Point.{Point};
 ghost use Rattle.plane_geometry.specs.declared.Line.{Line};
 ghost use Rattle.plane_geometry.specs.declared.Segment.{Segment};
-ghost use Rattle.plane_geometry.specs.Position.{Position, opposite_of, cross_of};
+ghost use Rattle.plane_geometry.specs.Position.{Position, position_of, is_same_position, opposite_of, cross_of};
 ghost use Rattle.plane_geometry.specs.Direction.{direction_vector, is_along};
 ghost use Rattle.plane_geometry.specs.CrossTable.{cross_tangents, cross_roots};
 ghost use Rattle.plane_geometry.specs.LineView.{HaveSamePoints};
 ghost use Rattle.plane_geometry.specs.Multiple.{IsPositiveMultiple};
+ghost use Rattle.plane_geometry.specs.Order.{compare_segments, compare_lines};
 ghost use Rattle.plane_geometry.specs.SegmentView.{lesser_end, greater_end};
 
 /// From one point to another it goes in a direction exactly where their difference is a positive multiple of it.
@@ -31,12 +34,19 @@ pub fn cross_products_are_units()
     ensures { (m n : ℕ) → m < n → n < 8 → IsSame (cross_of (direction_vector m) (direction_vector n)) (unit_of (cross_tangents m n) (cross_roots m n)) }
 {}
 
-/// Lines are equal exactly where they have the same points of the plane.
+/// Lines are equal, and their order ties them, exactly where they have the same points of the plane.
 pub fn lines_are_their_points()
-    ensures { (l m : Line) → (l ≡ m) ↔ HaveSamePoints l m }
+    ensures equal { (l m : Line) → (l ≡ m) ↔ HaveSamePoints l m }
+    ensures tied { (l m : Line) → (compare_lines l m ≡ Equal) ↔ HaveSamePoints l m }
 {}
 
-/// Segments are equal exactly where they have the same ends.
+/// Points are equal exactly where they are one place of the plane, by x and by y.
+pub fn points_are_their_places()
+    ensures { (p q : Point) → (p ≡ q) ↔ IsTrue (is_same_position (position_of p) (position_of q)) }
+{}
+
+/// Segments are equal, and their order ties them, exactly where they have the same ends.
 pub fn segments_are_their_ends()
-    ensures { (s u : Segment) → (s ≡ u) ↔ ((lesser_end s ≡ lesser_end u) × (greater_end s ≡ greater_end u)) }
+    ensures equal { (s u : Segment) → (s ≡ u) ↔ ((lesser_end s ≡ lesser_end u) × (greater_end s ≡ greater_end u)) }
+    ensures tied { (s u : Segment) → (compare_segments s u ≡ Equal) ↔ ((lesser_end s ≡ lesser_end u) × (greater_end s ≡ greater_end u)) }
 {}

@@ -18,10 +18,11 @@ ghost use Rattle.plane_geometry.specs.LineStored.{PassesThroughPoint};
 
 pub use directions::direction;
 pub use lines::side;
-pub use meeting::{MeetFault, common_point, meet};
+pub use meeting::{MeetFault, common_point, cross_unit, meet};
 pub use segments::{between_ends, meets_at_ends, on_segment, overlaps, parallel, share_point};
 pub use sides::side_from;
 use sides::{cross_at, is_before};
+use std::cmp::Ordering;
 use surd_number::{Surd, Wide};
 use thiserror::Error;
 
@@ -41,7 +42,7 @@ pub struct Dir {
 
 /// A straight segment in one of the 16 directions, from its lesser end to its greater one. Segments are ordered by `from`,
 /// then `to`.
-#[derive(Clone, Copy, Debug, PartialEq, Eq, PartialOrd, Ord, Hash)]
+#[derive(Clone, Copy, Debug, PartialEq, Eq, Hash)]
 pub struct Segment {
     from: Point,
     to: Point,
@@ -51,7 +52,7 @@ pub struct Segment {
 
 /// A line of the plane: a direction from 0 to 7, and the cross product of that direction with any point of the line.
 /// Lines are ordered by direction, then by the triple of the offset.
-#[derive(Clone, Copy, Debug, PartialEq, Eq, PartialOrd, Ord, Hash)]
+#[derive(Clone, Copy, Debug, PartialEq, Eq, Hash)]
 pub struct Line {
     direction: u8,
     offset: Wide,
@@ -96,8 +97,10 @@ impl Dir {
 impl Segment {
     ghost use Rattle.plane_geometry.specs.DirView.{dir_number};
     ghost use Rattle.plane_geometry.specs.Position.{compare_positions};
+    ghost use Rattle.plane_geometry.specs.Direction.{is_along};
     ghost use Rattle.plane_geometry.specs.Ends.{lesser_of, greater_of, HasNoDirection};
-    ghost use Rattle.plane_geometry.specs.SegmentView.{lesser_end, greater_end, direction_number};
+    ghost use Rattle.plane_geometry.specs.SegmentView.{lesser_end, greater_end, direction_number, stretch_of};
+    ghost use Rattle.plane_geometry.specs.Stretch.{is_on};
     ghost use Rattle.plane_geometry.specs.SegmentOf.{segment_from, segment_of};
 
     /// The segment between two points, the lesser one first.
@@ -134,7 +137,8 @@ impl Segment {
 
     /// The lesser end.
     pub fn from(&self) -> &Point
-        ensures { result.now ≡ lesser_end self.now }
+        ensures value { result.now ≡ lesser_end self.now }
+        ensures first { IsTrue (is_lt (compare_positions (position_of result.now) (position_of (greater_end self.now)))) }
     {
         &self.from
     }
@@ -146,17 +150,73 @@ impl Segment {
         &self.to
     }
 
+    /// The part of the segment from one of its points to a later one. It has the segment's direction, so none is searched.
+    pub fn part(&self, from: &Point, to: &Point) -> Segment
+        requires from_on { IsTrue (is_on (position_of from.now) (stretch_of self.now)) }
+        requires to_on { IsTrue (is_on (position_of to.now) (stretch_of self.now)) }
+        requires order { IsTrue (is_lt (compare_positions (position_of from.now) (position_of to.now))) }
+        ensures ends { (lesser_end result ≡ from.now) × (greater_end result ≡ to.now) }
+        ensures direction { direction_number result ≡ direction_number self.now }
+        ensures value { segment_of from.now to.now ≡ Some result }
+    {
+        Segment {
+            from: *from,
+            to: *to,
+            dir: self.dir,
+        }
+    }
+
     /// The direction from the lesser end to the greater one.
     pub fn dir(&self) -> Dir
-        ensures { dir_number result ≡ direction_number self.now }
+        ensures value { dir_number result ≡ direction_number self.now }
+        ensures along { IsTrue (is_along (dir_number result) (stretch_of self.now).from (stretch_of self.now).to) }
     {
         self.dir
     }
 }
 
+impl Ord for Segment {
+    ghost use Rattle.std.specs.Prelude.{refl};
+    ghost use Rattle.plane_geometry.specs.Order.{compare_segments};
+    ghost use Rattle.plane_geometry.specs.OrderLaws.{compare_segments_total, segment_eq_is};
+
+    ghost cmp = { compare_segments };
+
+    ghost total = { compare_segments_total };
+
+    ghost matches_partial_cmp = { λ _ _. refl };
+
+    ghost matches_eq = { segment_eq_is };
+
+    fn cmp(&self, other: &Segment) -> Ordering {
+        match self.from.cmp(&other.from) {
+            Ordering::Equal => self.to.cmp(&other.to),
+            decided => decided,
+        }
+    }
+}
+
+impl PartialOrd for Segment {
+    ghost use Rattle.std.specs.Ordering.{as_partial_cmp};
+    ghost use Rattle.std.specs.Prelude.{refl};
+    ghost use Rattle.std.specs.Cmp.{partial_order_from_agreeing_total};
+    ghost use Rattle.plane_geometry.specs.Order.{compare_segments};
+    ghost use Rattle.plane_geometry.specs.OrderLaws.{compare_segments_total, segment_eq_is};
+
+    ghost partial_cmp = { as_partial_cmp compare_segments };
+
+    ghost laws = { partial_order_from_agreeing_total compare_segments compare_segments_total (λ _ _. refl) segment_eq_is };
+
+    fn partial_cmp(&self, other: &Segment) -> Option<Ordering> {
+        Some(self.cmp(other))
+    }
+}
+
 impl Line {
-    ghost use Rattle.std.specs.Prelude.{◌%◌};
+    ghost use Rattle.std.specs.Prelude.{◌%◌, ◌*◌, ◌^◌};
     ghost use Rattle.surd_number.specs.Exact.{IsWideOf};
+    ghost use Rattle.surd_number.specs.Number.{FitsOver};
+    ghost use Rattle.surd_number.specs.Value.{wide_number_of};
     ghost use Rattle.plane_geometry.specs.Position.{Position, cross_of};
     ghost use Rattle.plane_geometry.specs.Direction.{direction_vector, side_of};
     ghost use Rattle.plane_geometry.specs.DirView.{dir_number};
@@ -186,7 +246,8 @@ impl Line {
 
     /// The cross product of the direction with any point of the line.
     pub fn offset(&self) -> Wide
-        ensures { result ≡ line_offset self.now }
+        ensures value { result ≡ line_offset self.now }
+        ensures fits { FitsOver (6 * 2 ^ 52) 16 (wide_number_of result) }
     {
         self.offset
     }
@@ -198,6 +259,42 @@ impl Line {
         Dir {
             number: self.direction,
         }
+    }
+}
+
+impl Ord for Line {
+    ghost use Rattle.std.specs.Prelude.{refl};
+    ghost use Rattle.plane_geometry.specs.Order.{compare_lines};
+    ghost use Rattle.plane_geometry.specs.OrderLaws.{compare_lines_total, line_eq_is};
+
+    ghost cmp = { compare_lines };
+
+    ghost total = { compare_lines_total };
+
+    ghost matches_partial_cmp = { λ _ _. refl };
+
+    ghost matches_eq = { line_eq_is };
+
+    fn cmp(&self, other: &Line) -> Ordering {
+        self.direction
+            .cmp(&other.direction)
+            .then(self.offset.cmp(&other.offset))
+    }
+}
+
+impl PartialOrd for Line {
+    ghost use Rattle.std.specs.Ordering.{as_partial_cmp};
+    ghost use Rattle.std.specs.Prelude.{refl};
+    ghost use Rattle.std.specs.Cmp.{partial_order_from_agreeing_total};
+    ghost use Rattle.plane_geometry.specs.Order.{compare_lines};
+    ghost use Rattle.plane_geometry.specs.OrderLaws.{compare_lines_total, line_eq_is};
+
+    ghost partial_cmp = { as_partial_cmp compare_lines };
+
+    ghost laws = { partial_order_from_agreeing_total compare_lines compare_lines_total (λ _ _. refl) line_eq_is };
+
+    fn partial_cmp(&self, other: &Line) -> Option<Ordering> {
+        Some(self.cmp(other))
     }
 }
 

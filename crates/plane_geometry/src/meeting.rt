@@ -2,22 +2,20 @@
 
 ghost use Rattle.std.specs.Prelude.{◌≡◌, ◌≢◌, ◌≤◌, ◌<◌, ◌^◌, ◌↔◌, pos, IfOk, IsTrue, MatchResult};
 ghost use Rattle.std.specs.Result.{result_ok};
-ghost use Rattle.surd_number.specs.Number.{IsSame, product_of, difference_of, power_of, half_root, unit_inverse_of};
+ghost use Rattle.surd_number.specs.Number.{IsSame, product_of, difference_of, power_of, half_root, unit_inverse_of, FitsOver};
 ghost use Rattle.surd_number.specs.Stored.{IsSurd};
 ghost use Rattle.surd_number.specs.Value.{number_of, wide_number_of};
 ghost use Rattle.surd_number.specs.Exact.{IsWideOf, IsSurdOf};
-ghost use Rattle.surd_number.specs.Fits.{FitsOver};
 ghost use Rattle.plane_geometry.specs.Position.{Position, position_of};
 ghost use Rattle.plane_geometry.specs.CrossTable.{cross_tangents, cross_roots};
 ghost use Rattle.plane_geometry.specs.LineView.{line_number, IsOnLine, HasNoCommonPoint};
-ghost use Rattle.plane_geometry.specs.MeetLaws.{meeting_of};
 ghost use Rattle.plane_geometry.specs.Part.{part_number};
 ghost use Rattle.plane_geometry.specs.SegmentView.{stretch_of};
-ghost use Rattle.plane_geometry.specs.Common.{is_parallel, common_of};
+ghost use Rattle.plane_geometry.specs.Common.{is_parallel, common_of, meeting_of, IsOnBothLines, IsMeetingOutOfRange};
 
 use crate::sides::{Part, parts, scaled};
 use crate::{Line, Point, Segment};
-use surd_number::Wide;
+use surd_number::{OutOfRange, Wide};
 use thiserror::Error;
 
 /// Why two lines have no common point of two Surds.
@@ -29,6 +27,16 @@ pub enum MeetFault {
     /// A coordinate of the common point is not a Surd.
     #[error("the common point is out of range")]
     OutOfRange,
+}
+
+impl From<OutOfRange> for MeetFault {
+    ghost use Rattle.plane_geometry.specs.declared.meeting.MeetFault.TheVariants.{OutOfRange};
+
+    ghost from_gives = { λ _ fault. fault ≡ OutOfRange };
+
+    fn from(_: OutOfRange) -> MeetFault {
+        MeetFault::OutOfRange
+    }
 }
 
 /// The powers of `sqrt 2 - 1` in the cross products of the directions 0 to 7 with later ones.
@@ -55,8 +63,8 @@ const ROOTS: [[u8; 8]; 8] = [
     [0, 0, 0, 0, 0, 0, 0, 0],
 ];
 
-/// The cross product of direction `m` with direction `n`, by its powers of `sqrt 2 - 1` and of `sqrt 2`.
-fn cross_unit(m: u8, n: u8) -> (u8, u8)
+/// The cross product of direction `m` with a later direction `n`, by its powers of `sqrt 2 - 1` and of `sqrt 2`.
+pub fn cross_unit(m: u8, n: u8) -> (u8, u8)
     requires first { m < 8 }
     requires second { n < 8 }
     ensures tangents { result.0 ≡ cross_tangents m n }
@@ -66,44 +74,6 @@ fn cross_unit(m: u8, n: u8) -> (u8, u8)
         TANGENTS[m as usize][n as usize],
         ROOTS[m as usize][n as usize],
     )
-}
-
-/// `w / (sqrt 2 - 1)`, which is `t * w + 2 * w`.
-fn over_tangent(w: &Wide) -> Wide
-    requires { FitsOver (2 ^ 60) 16 (wide_number_of w.now) }
-    ensures { IsWideOf result (product_of (wide_number_of w.now) (record { a = pos 1; b = pos 1; k = 0 })) }
-{
-    w.times_unit(1, 0).plus(&w.times_unit(0, 2))
-}
-
-/// `w / sqrt(2)^j`.
-#[inline(always)]
-fn over_roots(w: &Wide, j: u8) -> Wide
-    requires few { j ≤ 3 }
-    requires fits { FitsOver (2 ^ 70) 16 (wide_number_of w.now) }
-    ensures { IsWideOf result (product_of (wide_number_of w.now) (power_of half_root j)) }
-{
-    match j {
-        0 => *w,
-        1 => w.half_root(),
-        2 => w.half_root().half_root(),
-        _ => w.half_root().half_root().half_root(),
-    }
-}
-
-/// The quotient by a unit.
-#[inline(always)]
-fn over_unit(w: &Wide, i: u8, j: u8) -> Wide
-    requires few { i ≤ 1 }
-    requires few_roots { j ≤ 3 }
-    requires fits { FitsOver (2 ^ 60) 16 (wide_number_of w.now) }
-    ensures { IsWideOf result (product_of (wide_number_of w.now) (unit_inverse_of i j)) }
-{
-    if i == 0 {
-        over_roots(w, j)
-    } else {
-        over_roots(&over_tangent(w), j)
-    }
 }
 
 /// `a * o - b * u`, for offsets `o` and `u` of lines.
@@ -118,13 +88,10 @@ fn coordinate(a: Part, l: &Line, b: Part, m: &Line) -> Wide
 fn narrowed(x: &Wide, y: &Wide) -> Result<Point, MeetFault>
     ensures { MatchResult result (λ p. IsSurdOf p.x (wide_number_of x.now) × IsSurdOf p.y (wide_number_of y.now)) (λ e. (e ≡ MeetFault.OutOfRange) × (¬ (IsSurd (wide_number_of x.now) × IsSurd (wide_number_of y.now)))) }
 {
-    match x.narrow() {
-        Ok(x) => match y.narrow() {
-            Ok(y) => Ok(Point { x, y }),
-            Err(_) => Err(MeetFault::OutOfRange),
-        },
-        Err(_) => Err(MeetFault::OutOfRange),
-    }
+    Ok(Point {
+        x: x.narrow()?,
+        y: y.narrow()?,
+    })
 }
 
 /// The common point of a line and one of a later direction.
@@ -135,14 +102,16 @@ fn meet_later(l: &Line, m: &Line) -> Result<Point, MeetFault>
     let (i, j) = cross_unit(l.direction, m.direction);
     let (l_x, l_y) = parts(l.dir());
     let (m_x, m_y) = parts(m.dir());
-    let x = over_unit(&coordinate(m_x, l, l_x, m), i, j);
-    let y = over_unit(&coordinate(m_y, l, l_y, m), i, j);
+    let x = coordinate(m_x, l, l_x, m).over_unit(i, j);
+    let y = coordinate(m_y, l, l_y, m).over_unit(i, j);
     narrowed(&x, &y)
 }
 
 /// The common point of the lines of two segments.
 pub fn common_point(s: &Segment, u: &Segment) -> Result<Point, MeetFault>
     ensures parallel { (result ≡ Err MeetFault.Parallel) ↔ IsTrue (is_parallel (stretch_of s.now) (stretch_of u.now)) }
+    ensures point { IfOk result (λ p. IsOnBothLines (position_of p) s.now u.now) }
+    ensures out_of_range { (result ≡ Err MeetFault.OutOfRange) ↔ IsMeetingOutOfRange s.now u.now }
     ensures value { result_ok result ≡ common_of (stretch_of s.now) (stretch_of u.now) }
 {
     meet(

@@ -2,10 +2,9 @@
 
 ghost use Rattle.std.specs.Prelude.{◌≡◌, ◌^◌};
 ghost use Rattle.std.specs.Ordering.{is_lt};
-ghost use Rattle.surd_number.specs.Number.{product_of, difference_of, negative_of, tangent, sign_of};
+ghost use Rattle.surd_number.specs.Number.{product_of, difference_of, negative_of, tangent, sign_of, FitsOver};
 ghost use Rattle.surd_number.specs.Value.{number_of, wide_number_of};
 ghost use Rattle.surd_number.specs.Exact.{IsWideOf};
-ghost use Rattle.surd_number.specs.Fits.{FitsOver};
 ghost use Rattle.plane_geometry.specs.Position.{position_of, vector_of, cross_of, dot_of, compare_positions, is_same_position};
 ghost use Rattle.plane_geometry.specs.Direction.{direction_vector, nought, side_of, is_along, is_zero, is_positive, is_negative};
 ghost use Rattle.plane_geometry.specs.DirView.{dir_number};

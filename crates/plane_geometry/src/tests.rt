@@ -274,6 +274,16 @@ fn tells_points_of_a_segment(rt: HostRuntime) -> Result<(), Fail> {
 }
 
 #[test]
+fn takes_parts_of_a_segment(rt: HostRuntime) -> Result<(), Fail> {
+    let s = segment((0, 4, 4, 0))?;
+    let from = whole(1, 3)?;
+    let to = whole(4, 0)?;
+    assert!(rt; on_segment(&from, &s) && on_segment(&to, &s) && from.cmp(&to).is_lt());
+    assert_eq!(rt; s.part(&from, &to), segment((4, 0, 1, 3))?);
+    Ok(())
+}
+
+#[test]
 fn shows_faults(rt: HostRuntime) -> Result<(), Fail> {
     let zero_length = SegmentFault::ZeroLength;
     let bad_direction = SegmentFault::BadDirection;

@@ -1,9 +1,9 @@
 -- The first line of each reply.
-use Rattle.std.specs.Prelude.{ℕ, List, [], ◌++◌, Option, None, Some, unwrap_or, codes, decimal}
+use Rattle.std.specs.Prelude.{ℕ, List, [], ◌++◌, Option, None, Some, codes, decimal}
 use Rattle.cp_text.specs.declared.line.LineFault.{LineFault}
 use Rattle.cp_text.specs.declared.line.LineFault.TheVariants as line
-use Rattle.crease_store.specs.declared.faults.StoreFault.{StoreFault}
-use Rattle.crease_store.specs.declared.faults.StoreFault.TheVariants as store
+use Rattle.crease_store.specs.declared.faults.StoreRefusal.{StoreRefusal}
+use Rattle.crease_store.specs.declared.faults.StoreRefusal.TheVariants as store
 use Rattle.script_lang.specs.declared.reply.Reply.{Reply}
 use Rattle.script_lang.specs.declared.reply.Reply.TheVariants.{Version, Listed, Checked, Refused}
 use Rattle.script_lang.specs.declared.reply.LoadCause.{LoadCause}
@@ -21,25 +21,20 @@ line_refusal (line.BadNumber place) = BadNumber place
 line_refusal (line.NotExact place) = NotExact place
 line_refusal (line.OutOfRange place) = OutOfRange place
 
--- the refusal of a change; want of memory has none
-abbrev pub refusal_if : StoreFault → Option Refusal
-refusal_if store.ZeroLength = Some ZeroLength
-refusal_if store.BadDirection = Some BadDirection
-refusal_if store.EdgeOffBorder = Some EdgeOffBorder
-refusal_if store.OutsideSheet = Some OutsideSheet
-refusal_if store.OnBorder = Some OnBorder
-refusal_if (store.Crossing piece) = Some (Crossing piece)
-refusal_if (store.TooManyPieces pieces) = Some (TooManyPieces pieces)
-refusal_if store.NoSuchPiece = Some NoSuchPiece
-refusal_if store.Memory = None
-
--- want of memory is no answer of a machine, so what stands for it is never told
-abbrev pub store_refusal : StoreFault → Refusal
-store_refusal fault = unwrap_or (refusal_if fault) Full
+-- the refusal of a change
+abbrev pub store_refusal : StoreRefusal → Refusal
+store_refusal store.ZeroLength = ZeroLength
+store_refusal store.BadDirection = BadDirection
+store_refusal store.EdgeOffBorder = EdgeOffBorder
+store_refusal store.OutsideSheet = OutsideSheet
+store_refusal store.OnBorder = OnBorder
+store_refusal (store.Crossing piece) = Crossing piece
+store_refusal (store.TooManyPieces pieces) = TooManyPieces pieces
+store_refusal store.NoSuchPiece = NoSuchPiece
 
 abbrev pub cause_refusal : LoadCause → Refusal
 cause_refusal (Line fault) = line_refusal fault
-cause_refusal (Add fault) = store_refusal fault
+cause_refusal (Add refusal) = store_refusal refusal
 
 -- the word of a refusal
 abbrev pub refusal_word : Refusal → List ℕ

@@ -2,10 +2,10 @@
 
 ghost use Rattle.std.specs.Prelude.{◌≡◌, ◌++◌, List, ℕ, codes, decimal, IfOk, IfSome, OnOk, OnErr};
 ghost use Rattle.cp_text.specs.Growth.{KeepsFront};
-ghost use Rattle.script_lang.specs.Replies.{line_refusal, refusal_if, store_refusal, cause_refusal, head_text, refusal_text, plain_text, refusal_word, refusal_number, refusal_cause, number_part, cause_text};
+ghost use Rattle.script_lang.specs.Replies.{line_refusal, store_refusal, cause_refusal, head_text, refusal_text, plain_text, refusal_word, refusal_number, refusal_cause, number_part, cause_text};
 
 use cp_text::{LineFault, all_or_nothing};
-use crease_store::StoreFault;
+use crease_store::StoreRefusal;
 use itoa::Buffer;
 use std::alloc::AllocError;
 
@@ -15,7 +15,7 @@ pub enum LoadCause {
     /// It is no crease line.
     Line { fault: LineFault },
     /// It is not added.
-    Add { fault: StoreFault },
+    Add { refusal: StoreRefusal },
 }
 
 /// Why a command changed nothing. Places count the words after the first, from 1.
@@ -92,21 +92,19 @@ pub fn refusal_of_line(fault: LineFault) -> Refusal
     }
 }
 
-/// The refusal of a change; None for want of memory, which has none.
-pub fn refusal_of_store(fault: StoreFault) -> Option<Refusal>
-    ensures exact { result ≡ refusal_if fault }
-    ensures some { IfSome result (λ refusal. refusal ≡ store_refusal fault) }
+/// The refusal of a change.
+pub fn refusal_of_store(refusal: StoreRefusal) -> Refusal
+    ensures { result ≡ store_refusal refusal }
 {
-    match fault {
-        StoreFault::ZeroLength => Some(Refusal::ZeroLength),
-        StoreFault::BadDirection => Some(Refusal::BadDirection),
-        StoreFault::EdgeOffBorder => Some(Refusal::EdgeOffBorder),
-        StoreFault::OutsideSheet => Some(Refusal::OutsideSheet),
-        StoreFault::OnBorder => Some(Refusal::OnBorder),
-        StoreFault::Crossing { piece } => Some(Refusal::Crossing { piece }),
-        StoreFault::TooManyPieces { pieces } => Some(Refusal::TooManyPieces { pieces }),
-        StoreFault::NoSuchPiece => Some(Refusal::NoSuchPiece),
-        StoreFault::Memory => None,
+    match refusal {
+        StoreRefusal::ZeroLength => Refusal::ZeroLength,
+        StoreRefusal::BadDirection => Refusal::BadDirection,
+        StoreRefusal::EdgeOffBorder => Refusal::EdgeOffBorder,
+        StoreRefusal::OutsideSheet => Refusal::OutsideSheet,
+        StoreRefusal::OnBorder => Refusal::OnBorder,
+        StoreRefusal::Crossing { piece } => Refusal::Crossing { piece },
+        StoreRefusal::TooManyPieces { pieces } => Refusal::TooManyPieces { pieces },
+        StoreRefusal::NoSuchPiece => Refusal::NoSuchPiece,
     }
 }
 
@@ -116,7 +114,7 @@ fn refusal_of_cause(cause: LoadCause) -> Refusal
 {
     match cause {
         LoadCause::Line { fault } => refusal_of_line(fault),
-        LoadCause::Add { fault } => refusal_of_store(fault).unwrap_or(Refusal::Full),
+        LoadCause::Add { refusal } => refusal_of_store(refusal),
     }
 }
 

@@ -3,7 +3,7 @@
 use super::*;
 use cp_text::{CpLine, LineFault, write_line, write_number};
 use crease_model::Kind;
-use crease_store::StoreFault;
+use crease_store::StoreRefusal;
 use plane_geometry::Point;
 use std::alloc::{AllocError, Global};
 use std::test::Fail;
@@ -207,7 +207,7 @@ fn bounds_the_lines_of_a_block(rt: HostRuntime) -> Result<(), Fail> {
 #[test]
 fn writes_refusals(rt: HostRuntime) -> Result<(), Fail> {
     let add = LoadCause::Add {
-        fault: StoreFault::Crossing { piece: 7 },
+        refusal: StoreRefusal::Crossing { piece: 7 },
     };
     let line = LoadCause::Line {
         fault: LineFault::NotExact { place: 2 },
@@ -242,7 +242,6 @@ fn writes_refusals(rt: HostRuntime) -> Result<(), Fail> {
         put_refusal(&mut out, refusal)?;
         assert_eq!(rt; out.as_slice(), text.as_bytes());
     }
-    assert_eq!(rt; refusal_of_store(StoreFault::Memory), None);
     Ok(())
 }
 

@@ -6,8 +6,9 @@ pub mod Number
 pub mod Stored
 pub mod Value
 pub mod Exact
-pub mod Canonical
-pub mod Fits
+pub mod CanonicalLaws
+pub mod FitsLaws
+pub mod Order
 pub mod SurdLaws
 pub mod Whole
-pub mod Answer
+pub mod ExactLaws

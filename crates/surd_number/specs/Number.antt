@@ -48,6 +48,18 @@ root_sign (negsuc a) (negsuc b) = Neg
 abbrev pub sign_of : Number → Sgn
 sign_of x = root_sign x.a x.b
 
+-- the sign of the negative
+abbrev pub opposite_sign : Sgn → Sgn
+opposite_sign Neg = Pos
+opposite_sign Zero = Zero
+opposite_sign Pos = Neg
+
+-- the sign of a product
+abbrev pub times_sign : Sgn → Sgn → Sgn
+times_sign Neg s = opposite_sign s
+times_sign Zero s = Zero
+times_sign Pos s = s
+
 -- the order of the values
 abbrev pub ordering_of : Sgn → Ordering
 ordering_of Neg = Less
@@ -68,6 +80,14 @@ IsCanonical x = (y : Number) → IsSame y x → x.k ≤ y.k
 -- at most 2^bits in absolute value, over at most 2^places
 abbrev pub IsWithin : ℕ → ℕ → Number → Type 0
 IsWithin bits places x = (unsigned_abs x.a ≤ 2 ^ bits) × (unsigned_abs x.b ≤ 2 ^ bits) × (x.k ≤ places)
+
+-- over 2^places, x has whole numerators of at most `most` in absolute value
+pub record FitsOver (most places : ℕ) (x : Number) : Type 0 where
+  pub a : ℤ
+  pub b : ℤ
+  pub same : IsSame x (record { a = a; b = b; k = places })
+  pub a_fits : unsigned_abs a ≤ most
+  pub b_fits : unsigned_abs b ≤ most
 
 -- t = sqrt 2 - 1, and its powers t^i * (sqrt 2)^j, the units that directions have as cross products
 abbrev pub tangent : Number

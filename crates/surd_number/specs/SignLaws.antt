@@ -10,6 +10,7 @@ use Rattle.surd_number.specs.NumberLaws.{number_ring, number_ring_from, IsSame-r
 use Rattle.surd_number.specs.declared.Sgn.{Sgn}
 use Rattle.surd_number.specs.declared.Sgn.TheVariants.{Neg, Zero, Pos}
 use Rattle.surd_number.specs.Number.{Number, IsSame, power, whole, sum_of, product_of, negative_of, difference_of, half_of, root_sign, sign_of, ordering_of, compare_of, IsLess, tangent, root_two, power_of, unit_of, unit_inverse_of}
+pub use Rattle.surd_number.specs.Number.{opposite_sign, times_sign}
 
 -- ---- the square root of two is irrational
 
@@ -308,50 +309,40 @@ conjugate_norm c d = int_ring (c ∷ d ∷ []) (v0 ⊗ v0 ⊝ con (pos 2) ⊗ (�
 conjugate_norm_first : (c d : ℤ) → norm (neg_ℤ c) d ≡ norm c d
 conjugate_norm_first c d = int_ring (c ∷ d ∷ []) (⊖ v0 ⊗ (⊖ v0) ⊝ con (pos 2) ⊗ (v1 ⊗ v1)) (v0 ⊗ v0 ⊝ con (pos 2) ⊗ (v1 ⊗ v1)) refl
 
-moved : (x y z w : ℤ) → x <ℤ w → neg_ℤ y ≡ x → pos 0 <ℤ (w +ℤ y)
-moved x y z w h e = omega (arith, ints)
+-- what lies above the negative of y is positive with y
+positive_from_above : (x y z w : ℤ) → x <ℤ w → neg_ℤ y ≡ x → pos 0 <ℤ (w +ℤ y)
+positive_from_above x y z w h e = omega (arith, ints)
 
-moved_right : (x y z w : ℤ) → x <ℤ w → neg_ℤ y ≡ x → pos 0 <ℤ (y +ℤ w)
-moved_right x y z w h e = omega (arith, ints)
+positive_with_above : (x y z w : ℤ) → x <ℤ w → neg_ℤ y ≡ x → pos 0 <ℤ (y +ℤ w)
+positive_with_above x y z w h e = omega (arith, ints)
 
 positive_product : (a b c d : ℤ) → IsPositiveRoot a b → IsPositiveRoot c d → IsPositiveRoot (a *ℤ c +ℤ pos 2 *ℤ (b *ℤ d)) (a *ℤ d +ℤ b *ℤ c)
 positive_product a b c d (inl p) (inl q) =
     inl (
       rw (product_norm a b c d) (int_mul_positive (norm a b) (norm c d) p.0 q.0),
-      moved _ (pos 2 *ℤ (b *ℤ d)) (pos 0) (a *ℤ c) (seconds_below a b c (neg_ℤ d) p.0 p.1 (rw (conjugate_norm c d) q.0) q.1)
+      positive_from_above _ (pos 2 *ℤ (b *ℤ d)) (pos 0) (a *ℤ c) (seconds_below a b c (neg_ℤ d) p.0 p.1 (rw (conjugate_norm c d) q.0) q.1)
           (int_ring (b ∷ d ∷ []) (⊖ (con (pos 2) ⊗ (v0 ⊗ v1))) (con (pos 2) ⊗ (v0 ⊗ (⊖ v1))) refl),
     )
 positive_product a b c d (inl p) (inr q) =
     inr (
       rw (product_norm a b c d) (int_mul_negative (norm a b) (norm c d) p.0 q.0),
-      moved _ (b *ℤ c) (pos 0) (a *ℤ d) (crossed_below a b (neg_ℤ c) d p.0 p.1 (rw (conjugate_norm_first c d) q.0) q.1)
+      positive_from_above _ (b *ℤ c) (pos 0) (a *ℤ d) (crossed_below a b (neg_ℤ c) d p.0 p.1 (rw (conjugate_norm_first c d) q.0) q.1)
           (int_ring (b ∷ c ∷ []) (⊖ (v0 ⊗ v1)) (v0 ⊗ (⊖ v1)) refl),
     )
 positive_product a b c d (inr p) (inl q) =
     inr (
       rw (product_norm a b c d, int_mul_comm (norm a b) (norm c d)) (int_mul_negative (norm c d) (norm a b) q.0 p.0),
-      moved_right _ (a *ℤ d) (pos 0) (b *ℤ c) (subst (λ (x : ℤ). (d *ℤ neg_ℤ a) <ℤ x) (int_mul_comm c b) (crossed_below c d (neg_ℤ a) b q.0 q.1 (rw (conjugate_norm_first a b) p.0) p.1))
+      positive_with_above _ (a *ℤ d) (pos 0) (b *ℤ c) (subst (λ (x : ℤ). (d *ℤ neg_ℤ a) <ℤ x) (int_mul_comm c b) (crossed_below c d (neg_ℤ a) b q.0 q.1 (rw (conjugate_norm_first a b) p.0) p.1))
           (int_ring (a ∷ d ∷ []) (⊖ (v0 ⊗ v1)) (v1 ⊗ (⊖ v0)) refl),
     )
 positive_product a b c d (inr p) (inr q) =
     inl (
       rw (product_norm a b c d) (int_mul_negatives (norm a b) (norm c d) p.0 q.0),
-      moved_right _ (a *ℤ c) (pos 0) (pos 2 *ℤ (b *ℤ d)) (firsts_below a b (neg_ℤ c) d p.0 p.1 (rw (conjugate_norm_first c d) q.0) q.1)
+      positive_with_above _ (a *ℤ c) (pos 0) (pos 2 *ℤ (b *ℤ d)) (firsts_below a b (neg_ℤ c) d p.0 p.1 (rw (conjugate_norm_first c d) q.0) q.1)
           (int_ring (a ∷ c ∷ []) (⊖ (v0 ⊗ v1)) (v0 ⊗ (⊖ v1)) refl),
     )
 
 -- ---- signs
-
-abbrev pub opposite_sign : Sgn → Sgn
-opposite_sign Neg = Pos
-opposite_sign Zero = Zero
-opposite_sign Pos = Neg
-
--- the sign of a product
-abbrev pub times_sign : Sgn → Sgn → Sgn
-times_sign Neg s = opposite_sign s
-times_sign Zero s = Zero
-times_sign Pos s = s
 
 times_positive : (s : Sgn) → times_sign s Pos ≡ s
 times_positive Neg = refl

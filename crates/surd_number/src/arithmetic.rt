@@ -43,9 +43,9 @@ pub(crate) fn product(m: i128, n: i128) -> i128
 
 /// `m * m`.
 fn square(m: u128) -> u128
-    requires { m ≤ 2 ^ 60 }
+    requires { m ≤ 2 ^ 63 }
     ensures value { result ≡ m * m }
-    ensures bound { result ≤ 2 ^ 120 }
+    ensures bound { result ≤ 2 ^ 126 }
 {
     m * m
 }
@@ -73,8 +73,8 @@ pub(crate) fn cross_sum(m: i128, j: u8, n: i128, k: u8) -> i128
 
 /// The sign of `a + b * sqrt 2`.
 pub(crate) fn sign_of_parts(a: i128, b: i128) -> Sgn
-    requires few_bits_a { unsigned_abs a ≤ 2 ^ 60 }
-    requires few_bits_b { unsigned_abs b ≤ 2 ^ 60 }
+    requires few_bits_a { unsigned_abs a ≤ 2 ^ 63 }
+    requires few_bits_b { unsigned_abs b ≤ 2 ^ 63 }
     ensures { result ≡ root_sign a b }
 {
     if a >= 0 && b >= 0 {

@@ -3,6 +3,7 @@
 #![tactic(auto)]
 
 mod arithmetic;
+pub mod laws;
 mod triple;
 
 ghost use Rattle.std.specs.Prelude.{◌≡◌, ◌≤◌, ◌^◌, IfOk};
@@ -35,7 +36,7 @@ pub struct Surd {
 }
 
 /// The same kind of number with `|a|, |b| <= 2^80` and `k <= 20`. Wides are ordered by their triples, and not by value.
-#[derive(Clone, Copy, Debug, PartialEq, Eq, PartialOrd, Ord, Hash)]
+#[derive(Clone, Copy, Debug, PartialEq, Eq, Hash)]
 pub struct Wide {
     a: i128,
     b: i128,
@@ -44,7 +45,7 @@ pub struct Wide {
 }
 
 impl Surd {
-    ghost use Rattle.surd_number.specs.Number.{IsSame, sum_of, difference_of, product_of, negative_of, half_of, sign_of, unit_of, unit_inverse_of};
+    ghost use Rattle.surd_number.specs.Number.{IsSame, whole, sum_of, difference_of, product_of, negative_of, half_of, sign_of, unit_of, unit_inverse_of};
     ghost use Rattle.surd_number.specs.Value.{number_of, triple_number_of};
     ghost use Rattle.surd_number.specs.Whole.{whole_surd};
     ghost use Rattle.surd_number.specs.Exact.{IsExactly};
@@ -62,7 +63,8 @@ impl Surd {
 
     /// A whole number.
     pub fn whole(n: i32) -> Surd
-        ensures { result ≡ whole_surd n }
+        ensures number { number_of result ≡ whole n }
+        ensures value { result ≡ whole_surd n }
     {
         Surd {
             a: n as i64,
@@ -115,14 +117,10 @@ impl Surd {
 
     /// The exact half.
     pub fn half(&self) -> Result<Surd, OutOfRange>
-        ensures { IsExactly result (half_of (number_of self.now)) }
+        ensures exact { IsExactly result (half_of (number_of self.now)) }
+        ensures twice { IfOk result (λ h. IsSame (sum_of (number_of h) (number_of h)) (number_of self.now)) }
     {
-        let whole = self.triple();
-        Surd::exactly(&Triple {
-            a: whole.a,
-            b: whole.b,
-            k: whole.k + 1,
-        })
+        Surd::exactly(&self.triple().half())
     }
 
     /// The exact quotient by `t^i * (sqrt 2)^j`, where t is `sqrt 2 - 1`.
@@ -172,11 +170,12 @@ impl Surd {
 
 impl Ord for Surd {
     ghost use Rattle.std.specs.Prelude.{refl};
-    ghost use Rattle.surd_number.specs.SurdLaws.{surd_cmp, surd_cmp_total, surd_eq_is};
+    ghost use Rattle.surd_number.specs.Order.{compare_surds};
+    ghost use Rattle.surd_number.specs.SurdLaws.{compare_surds_total, surd_eq_is};
 
-    ghost cmp = { surd_cmp };
+    ghost cmp = { compare_surds };
 
-    ghost total = { surd_cmp_total };
+    ghost total = { compare_surds_total };
 
     ghost matches_partial_cmp = { λ _ _. refl };
 
@@ -195,11 +194,12 @@ impl PartialOrd for Surd {
     ghost use Rattle.std.specs.Ordering.{as_partial_cmp};
     ghost use Rattle.std.specs.Prelude.{refl};
     ghost use Rattle.std.specs.Cmp.{partial_order_from_agreeing_total};
-    ghost use Rattle.surd_number.specs.SurdLaws.{surd_cmp, surd_cmp_total, surd_eq_is};
+    ghost use Rattle.surd_number.specs.Order.{compare_surds};
+    ghost use Rattle.surd_number.specs.SurdLaws.{compare_surds_total, surd_eq_is};
 
-    ghost partial_cmp = { as_partial_cmp surd_cmp };
+    ghost partial_cmp = { as_partial_cmp compare_surds };
 
-    ghost laws = { partial_order_from_agreeing_total surd_cmp surd_cmp_total (λ _ _. refl) surd_eq_is };
+    ghost laws = { partial_order_from_agreeing_total compare_surds compare_surds_total (λ _ _. refl) surd_eq_is };
 
     fn partial_cmp(&self, other: &Surd) -> Option<Ordering> {
         Some(self.cmp(other))
@@ -207,9 +207,8 @@ impl PartialOrd for Surd {
 }
 
 impl Wide {
-    ghost use Rattle.surd_number.specs.Number.{IsSame, IsWithin, sum_of, difference_of, product_of, sign_of, unit_of, half_root};
+    ghost use Rattle.surd_number.specs.Number.{IsSame, IsWithin, sum_of, difference_of, product_of, sign_of, unit_of, unit_inverse_of, root_two, half_root, FitsOver};
     ghost use Rattle.surd_number.specs.Stored.{IsWide};
-    ghost use Rattle.surd_number.specs.Fits.{FitsOver};
     ghost use Rattle.surd_number.specs.Value.{number_of, wide_number_of, triple_number_of};
     ghost use Rattle.surd_number.specs.Exact.{IsExactly, IsWideOf};
 
@@ -254,17 +253,28 @@ impl Wide {
         Wide::exactly(&self.triple().times(&Triple::unit(i, j)))
     }
 
+    /// The exact quotient by `t^i * (sqrt 2)^j`, where t is `sqrt 2 - 1`.
+    pub fn over_unit(&self, i: u8, j: u8) -> Wide
+        requires few { i ≤ 1 }
+        requires few_roots { j ≤ 3 }
+        requires fits { IsWide (product_of (wide_number_of self.now) (unit_inverse_of i j)) }
+        ensures { IsWideOf result (product_of (wide_number_of self.now) (unit_inverse_of i j)) }
+    {
+        Wide::exactly(&self.triple().times(&Triple::unit_inverse(i, j)))
+    }
+
     /// The exact product with `sqrt 2 / 2`.
     pub fn half_root(&self) -> Wide
         requires { IsWide (product_of (wide_number_of self.now) half_root) }
-        ensures { IsWideOf result (product_of (wide_number_of self.now) half_root) }
+        ensures exact { IsWideOf result (product_of (wide_number_of self.now) half_root) }
+        ensures root { IsSame (product_of (wide_number_of result) root_two) (wide_number_of self.now) }
     {
         Wide::exactly(&self.triple().times(&Triple { a: 0, b: 1, k: 1 }))
     }
 
     /// The sign.
     pub fn sgn(&self) -> Sgn
-        requires { IsWithin 60 20 (wide_number_of self.now) }
+        requires { IsWithin 63 20 (wide_number_of self.now) }
         ensures { result ≡ sign_of (wide_number_of self.now) }
     {
         self.triple().sgn()
@@ -305,6 +315,42 @@ impl Wide {
             b: least.b,
             k: least.k,
         }
+    }
+}
+
+impl Ord for Wide {
+    ghost use Rattle.std.specs.Prelude.{refl};
+    ghost use Rattle.surd_number.specs.Order.{compare_wides};
+    ghost use Rattle.surd_number.specs.SurdLaws.{compare_wides_total, wide_eq_is};
+
+    ghost cmp = { compare_wides };
+
+    ghost total = { compare_wides_total };
+
+    ghost matches_partial_cmp = { λ _ _. refl };
+
+    ghost matches_eq = { wide_eq_is };
+
+    fn cmp(&self, other: &Wide) -> Ordering {
+        self.a
+            .cmp(&other.a)
+            .then(self.b.cmp(&other.b).then(self.k.cmp(&other.k)))
+    }
+}
+
+impl PartialOrd for Wide {
+    ghost use Rattle.std.specs.Ordering.{as_partial_cmp};
+    ghost use Rattle.std.specs.Prelude.{refl};
+    ghost use Rattle.std.specs.Cmp.{partial_order_from_agreeing_total};
+    ghost use Rattle.surd_number.specs.Order.{compare_wides};
+    ghost use Rattle.surd_number.specs.SurdLaws.{compare_wides_total, wide_eq_is};
+
+    ghost partial_cmp = { as_partial_cmp compare_wides };
+
+    ghost laws = { partial_order_from_agreeing_total compare_wides compare_wides_total (λ _ _. refl) wide_eq_is };
+
+    fn partial_cmp(&self, other: &Wide) -> Option<Ordering> {
+        Some(self.cmp(other))
     }
 }
 

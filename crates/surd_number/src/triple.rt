@@ -15,7 +15,7 @@ pub(crate) struct Triple {
 }
 
 impl Triple {
-    ghost use Rattle.surd_number.specs.Number.{IsSame, IsCanonical, IsWithin, sum_of, product_of, negative_of, difference_of, sign_of, unit_of, unit_inverse_of};
+    ghost use Rattle.surd_number.specs.Number.{IsSame, IsCanonical, IsWithin, sum_of, product_of, negative_of, difference_of, half_of, sign_of, unit_of, unit_inverse_of};
     ghost use Rattle.surd_number.specs.Value.{triple_number_of};
 
     /// `self + other`.
@@ -41,6 +41,18 @@ impl Triple {
             a: -self.a,
             b: -self.b,
             k: self.k,
+        }
+    }
+
+    /// Half of it.
+    pub(crate) fn half(&self) -> Triple
+        requires { IsWithin 80 20 (triple_number_of self.now) }
+        ensures { triple_number_of result ≡ half_of (triple_number_of self.now) }
+    {
+        Triple {
+            a: self.a,
+            b: self.b,
+            k: self.k + 1,
         }
     }
 
@@ -107,8 +119,8 @@ impl Triple {
 
     /// The sign.
     pub(crate) fn sgn(&self) -> Sgn
-        requires few_bits_a { unsigned_abs self.now.a ≤ 2 ^ 60 }
-        requires few_bits_b { unsigned_abs self.now.b ≤ 2 ^ 60 }
+        requires few_bits_a { unsigned_abs self.now.a ≤ 2 ^ 63 }
+        requires few_bits_b { unsigned_abs self.now.b ≤ 2 ^ 63 }
         ensures { result ≡ sign_of (triple_number_of self.now) }
     {
         sign_of_parts(self.a, self.b)

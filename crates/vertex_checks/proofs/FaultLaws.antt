@@ -4,7 +4,7 @@ use Rattle.std.proofs.lemmas.Bool.{cond_both, cond-true, cond-false, or_parts, o
 use Rattle.plane_geometry.specs.declared.Point.{Point}
 use Rattle.crease_model.specs.View.{PatternView}
 use Rattle.isometry_map.specs.Linear.{reflection, composed}
-use Rattle.line_split.specs.Members.{Member, member, contained}
+use Rattle.line_split.specs.MemberLaws.{Member, member, contained}
 use Rattle.vertex_checks.specs.declared.fans.Ray.{Ray}
 use Rattle.vertex_checks.specs.declared.sectors.Window.{Window}
 use Rattle.vertex_checks.specs.declared.faults.LocalFault.{LocalFault}

@@ -9,8 +9,8 @@ use Rattle.crease_model.specs.declared.Piece.{Piece}
 use Rattle.crease_model.specs.Sheet.{place_of}
 use Rattle.crease_model.specs.View.{PatternView}
 use Rattle.crease_model.specs.Rules.{IsPattern}
-use Rattle.line_split.specs.Cuts.{with_point}
-use Rattle.line_split.specs.Lengths.{with_point_length, flat_map_length}
+use Rattle.line_split.specs.Points.{with_point}
+use Rattle.line_split.specs.LengthLaws.{with_point_length, flat_map_length}
 use Rattle.vertex_checks.specs.declared.fans.Ray.{Ray}
 use Rattle.vertex_checks.specs.declared.sectors.Window.{Window}
 use Rattle.vertex_checks.specs.declared.faults.LocalFault.TheVariants.{Kawasaki, Maekawa, BigLittleBig}

@@ -9,8 +9,8 @@ use Rattle.crease_model.specs.declared.Place.{Place}
 use Rattle.crease_model.specs.declared.Place.TheVariants.{Outside, Border, Inside}
 use Rattle.crease_model.specs.Sheet.{place_of}
 use Rattle.crease_model.specs.View.{PatternView}
-use Rattle.line_split.specs.Members.{Member, member, contained}
-use Rattle.line_split.specs.Cuts.{with_point, is_rising}
+use Rattle.line_split.specs.MemberLaws.{Member, member, contained}
+use Rattle.line_split.specs.Points.{with_point, is_rising}
 use Rattle.line_split.specs.PointLaws.{with_point_new, with_point_old, with_point_either, with_point_rising}
 use Rattle.vertex_checks.specs.Vertices.{is_inside, with_inner, with_inner_ends, vertices_from, vertices_of}
 use Rattle.vertex_checks.specs.Laws.{IsEnd, IsInnerEnd, VerticesAreInnerEnds}

@@ -9,7 +9,7 @@ use Rattle.crease_model.specs.declared.Piece.{Piece}
 use Rattle.crease_model.specs.declared.Place.TheVariants.{Inside}
 use Rattle.crease_model.specs.Sheet.{place_of}
 use Rattle.crease_model.specs.View.{PatternView}
-use Rattle.line_split.specs.Cuts.{is_rising}
+use Rattle.line_split.specs.Points.{is_rising}
 use Rattle.vertex_checks.specs.declared.fans.Ray.{Ray}
 use Rattle.vertex_checks.specs.declared.faults.LocalFault.TheVariants.{Kawasaki, Maekawa, BigLittleBig}
 use Rattle.vertex_checks.specs.declared.faults.VertexFault.{VertexFault}

@@ -8,7 +8,7 @@ use Rattle.crease_model.specs.declared.Place.{Place}
 use Rattle.crease_model.specs.declared.Place.TheVariants.{Outside, Border, Inside}
 use Rattle.crease_model.specs.Sheet.{place_of}
 use Rattle.crease_model.specs.View.{PatternView}
-use Rattle.line_split.specs.Cuts.{with_point}
+use Rattle.line_split.specs.Points.{with_point}
 
 abbrev pub is_inside : Place → Bool
 is_inside Outside = false

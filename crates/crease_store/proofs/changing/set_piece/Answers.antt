@@ -5,7 +5,7 @@ use Rattle.crease_store.specs.Changed.{with_kind}
 use Rattle.crease_store.proofs.Changes.{IsPattern-with_kind}
 use Rattle.crease_store.proofs.changing.set_piece.Goals as goal
 
-pub of-requires : goal.of-requires
-of-requires c =
-    let new : (let p : PatternView = record { corners = c.in_ok-sheet.sheet; pieces = c.in_ok-pieces.pieces.items; aux = c.in_ok-aux.aux.items } in p) ≡ with_kind c.args.pattern.now c.args.kind c.args.from.now c.args.to.now = search rules in
+pub with_pieces-requires : goal.with_pieces-requires
+with_pieces-requires c =
+    let new : (let p : PatternView = record { corners = c.args.pattern.now.corners; pieces = c.in_ok-pieces_in_kind.field-0.items; aux = c.args.pattern.now.aux } in p) ≡ with_kind c.args.pattern.now c.args.kind c.args.from.now c.args.to.now = search rules in
     subst IsPattern (sym new) (IsPattern-with_kind c.args.pattern.now c.args.kind c.args.from.now c.args.to.now c.pieces.ensures.rules c.requires)

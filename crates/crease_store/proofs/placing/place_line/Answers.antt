@@ -1,13 +1,13 @@
 use Rattle.std.proofs.Common.{◌≡◌, ℕ, suc, ◌+◌, List, ◌∷◌, ◌++◌, take, drop, slice_set, sym, ap, subst, ◌∙◌, arith}
 use Rattle.std.proofs.lemmas.List.{set_split}
 use Rattle.plane_geometry.specs.declared.Segment.{Segment}
-use Rattle.crease_store.specs.Placed.{line_at, placed}
+use Rattle.crease_store.specs.InOrder.{line_at, with_in_order}
 use Rattle.crease_store.proofs.placing.place_line.Goals as goal
 
-pub returns-in-Ok : goal.returns-in-Ok
-returns-in-Ok c =
+pub returns-in-Ok-clause-ok : goal.returns-in-Ok-clause-ok
+returns-in-Ok-clause-ok c =
     let i = c.in-Ok.i in
     let new = c.args.s.now in
     let next : suc i ≡ i + 1 = omega arith in
-    subst (λ (xs : List Segment). slice_set xs i new ≡ placed line_at xs new) c.as_slice.ensures.value
+    subst (λ (xs : List Segment). slice_set xs i new ≡ with_in_order line_at xs new) c.as_slice.ensures.value
     (set_split c.as_slice.result.now i new c.in-Ok.ensures.bound ∙ ap (λ (n : ℕ). take i c.as_slice.result.now ++ new ∷ drop n c.as_slice.result.now) next ∙ sym c.in-Ok.ensures.value)

@@ -1,5 +1,5 @@
 use Rattle.std.proofs.Common.{◌≡◌, ◌++◌, take, drop}
-use Rattle.line_split.specs.Cuts.{with_point}
+use Rattle.line_split.specs.Points.{with_point}
 use Rattle.line_split.proofs.cutting.place_for.Given as goal
 
 abbrev pub invariant-loop-i : goal.invariant-loop-i

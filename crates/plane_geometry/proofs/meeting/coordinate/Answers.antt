@@ -1,7 +1,7 @@
 use Rattle.std.proofs.Common.{◌+◌, ◌*◌, ◌^◌, lit≤}
 use Rattle.surd_number.specs.Number.{product_of, difference_of}
 use Rattle.surd_number.specs.Value.{wide_number_of}
-use Rattle.surd_number.specs.Fits.{fits_more, fits_same, fits_difference}
+use Rattle.surd_number.specs.FitsLaws.{fits_more, fits_same, fits_difference}
 use Rattle.plane_geometry.specs.Part.{part_number}
 use Rattle.plane_geometry.proofs.Wides.{wide_difference, part_fits}
 use Rattle.plane_geometry.proofs.Offsets.{offset_fits}

@@ -1,7 +1,7 @@
 use Rattle.std.proofs.Common.{Bool, true, ◌≡◌, ◌↔◌, sym, subst}
 use Rattle.plane_geometry.specs.Stretch.{MeetAtEnds}
 use Rattle.plane_geometry.specs.SegmentView.{stretch_of}
-use Rattle.plane_geometry.specs.CommonPoints.{meeting_is}
+use Rattle.plane_geometry.specs.CommonPointLaws.{meeting_is}
 use Rattle.plane_geometry.proofs.segments.meets_at_ends.Goals as goal
 
 pub returns-clause-common : goal.returns-clause-common

@@ -1,7 +1,7 @@
 use Rattle.std.proofs.Common.{Bool, true, ◌≡◌, ◌↔◌, sym, subst}
 use Rattle.plane_geometry.specs.Stretch.{ShareTwoPoints}
 use Rattle.plane_geometry.specs.SegmentView.{stretch_of}
-use Rattle.plane_geometry.specs.CommonPoints.{overlapping_is}
+use Rattle.plane_geometry.specs.CommonPointLaws.{overlapping_is}
 use Rattle.plane_geometry.proofs.segments.overlaps.Goals as goal
 
 pub returns-clause-common : goal.returns-clause-common

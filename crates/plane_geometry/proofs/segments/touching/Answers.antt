@@ -1,6 +1,6 @@
-use Rattle.std.proofs.Common.{sym, ◌∙◌}
+use Rattle.std.proofs.Common.{sym}
 use Rattle.plane_geometry.specs.SegmentView.{stretch_of}
-use Rattle.plane_geometry.specs.CommonPoints.{apart_untouched}
+use Rattle.plane_geometry.specs.CommonPointLaws.{apart_untouched}
 use Rattle.plane_geometry.proofs.segments.touching.Goals as goal
 
 pub returns-then-apart : goal.returns-then-apart

@@ -1,7 +1,7 @@
 use Rattle.std.proofs.Common.{◌+◌, ◌*◌, ◌^◌, ◌∙◌, lit≤}
 use Rattle.surd_number.specs.SignLaws.{sign_of-same}
 use Rattle.surd_number.specs.Value.{wide_number_of}
-use Rattle.surd_number.specs.Fits.{fits_more}
+use Rattle.surd_number.specs.FitsLaws.{fits_more}
 use Rattle.plane_geometry.specs.Position.{position_of, dot_of, vector_of}
 use Rattle.plane_geometry.specs.Direction.{direction_vector}
 use Rattle.plane_geometry.specs.DirView.{dir_number}

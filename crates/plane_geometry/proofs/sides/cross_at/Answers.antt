@@ -1,7 +1,7 @@
 use Rattle.std.proofs.Common.{◌≡◌, ◌^◌, lit≤, ap₂, subst}
 use Rattle.surd_number.specs.Number.{Number, IsSame}
 use Rattle.surd_number.specs.Value.{wide_number_of}
-use Rattle.surd_number.specs.Fits.{fits_more}
+use Rattle.surd_number.specs.FitsLaws.{fits_more}
 use Rattle.plane_geometry.specs.Position.{Position, position_of, cross_of}
 use Rattle.plane_geometry.specs.Direction.{direction_vector}
 use Rattle.plane_geometry.specs.DirView.{dir_number}

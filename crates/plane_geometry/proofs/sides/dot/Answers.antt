@@ -1,6 +1,6 @@
 use Rattle.std.proofs.Common.{◌*◌, ◌^◌, lit≤}
 use Rattle.surd_number.specs.Value.{wide_number_of}
-use Rattle.surd_number.specs.Fits.{fits_more}
+use Rattle.surd_number.specs.FitsLaws.{fits_more}
 use Rattle.plane_geometry.specs.Direction.{direction_vector}
 use Rattle.plane_geometry.specs.DirView.{dir_number}
 use Rattle.plane_geometry.specs.Part.{part_number}

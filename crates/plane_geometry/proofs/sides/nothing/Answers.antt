@@ -1,6 +1,6 @@
 use Rattle.std.proofs.Common.{◌^◌, lit≤}
 use Rattle.surd_number.specs.Value.{wide_number_of}
-use Rattle.surd_number.specs.Fits.{fits_more}
+use Rattle.surd_number.specs.FitsLaws.{fits_more}
 use Rattle.plane_geometry.proofs.Wides.{wide_difference, nothing_by}
 use Rattle.plane_geometry.proofs.sides.nothing.Goals as goal
 

@@ -1,5 +1,5 @@
 use Rattle.std.proofs.lemmas.Bool.{false≢true}
-use Rattle.surd_number.specs.Canonical.{stored_from_surd}
+use Rattle.surd_number.specs.CanonicalLaws.{stored_from_surd}
 use Rattle.surd_number.specs.Value.{triple_number_of}
 use Rattle.surd_number.proofs.Surd.exactly.Goals as goal
 

@@ -1,7 +1,7 @@
 use Rattle.std.proofs.Common.{subst, sym, ap, ◌∙◌, ◌≡◌}
 use Rattle.surd_number.specs.Number.{Number, negative_of}
 use Rattle.surd_number.specs.Stored.{IsStored}
-use Rattle.surd_number.specs.Canonical.{canonical_negative, within_negative}
+use Rattle.surd_number.specs.CanonicalLaws.{canonical_negative, within_negative}
 use Rattle.surd_number.specs.Value.{number_of, triple_number_of}
 use Rattle.surd_number.proofs.Surd.neg.Goals as goal
 

@@ -1,4 +1,4 @@
-use Rattle.surd_number.specs.Canonical.{stored_from_wide}
+use Rattle.surd_number.specs.CanonicalLaws.{stored_from_wide}
 use Rattle.surd_number.specs.Value.{triple_number_of}
 use Rattle.surd_number.proofs.Wide.exactly.Goals as goal
 

@@ -1,8 +1,8 @@
 use Rattle.std.proofs.Common.{sym, subst, ◌≡◌, ◌∙◌, ◌^◌}
-use Rattle.surd_number.specs.Number.{Number}
+use Rattle.surd_number.specs.Number.{Number, FitsOver}
 use Rattle.surd_number.specs.Stored.{IsStoredWide}
-use Rattle.surd_number.specs.Canonical.{stored_wide_from_stored}
-use Rattle.surd_number.specs.Fits.{FitsOver, fits_stored}
+use Rattle.surd_number.specs.CanonicalLaws.{stored_wide_from_stored}
+use Rattle.surd_number.specs.FitsLaws.{fits_stored}
 use Rattle.surd_number.specs.Value.{number_of, wide_number_of}
 use Rattle.surd_number.proofs.Wide.of.Goals as goal
 

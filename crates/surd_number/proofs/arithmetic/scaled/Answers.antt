@@ -2,7 +2,8 @@ use Rattle.std.proofs.Common.{ℕ, rules, ◌≤◌, ◌^◌, unsigned_abs, ◌*
 use Rattle.std.proofs.lemmas.Int.{fits_signed_mul, to_z-of_z}
 use Rattle.std.proofs.Math.Nat.{pow-le-pow_right}
 use mir.Syntax.{w128}
-use Rattle.surd_number.proofs.Signed.{product-bound, product-stored}
+use Rattle.surd_number.specs.FitsLaws.{product_bound}
+use Rattle.surd_number.proofs.Signed.{product-stored}
 use Rattle.surd_number.proofs.arithmetic.scaled.Goals as goal
 
 power-bound : (k : ℕ) → k ≤ 20 → 2 ^ k ≤ 2 ^ 20
@@ -27,4 +28,4 @@ returns-clause-bound c =
     let p = c.power_of_two.result in
     let few : unsigned_abs p ≤ 2 ^ 20 = rw c.power_of_two.ensures (power-bound c.args.k c.requires.few_places) in
     let fits : FitsSigned w128 (c.args.n *ℤ p) = fits_signed_mul w128 c.args.n p (2 ^ 80) (2 ^ 20) c.requires.few_bits few (lit< tt) in
-    rw (product-stored c.args.n p c.ranges.n (search rules) fits) (product-bound c.args.n p (2 ^ 80) (2 ^ 20) c.requires.few_bits few)
+    rw (product-stored c.args.n p c.ranges.n (search rules) fits) (product_bound c.args.n p (2 ^ 80) (2 ^ 20) c.requires.few_bits few)

@@ -1,10 +1,10 @@
 -- Each step keeps a bound over 2^16 that is far within a Wide's limits.
 use Rattle.std.proofs.Common.{ℕ, ◌+◌, ◌*◌, ◌^◌, ◌≤◌, lit≤}
-use Rattle.surd_number.specs.Number.{sum_of, difference_of, product_of, unit_of, half_root}
+use Rattle.surd_number.specs.Number.{sum_of, difference_of, product_of, unit_of, half_root, FitsOver}
 use Rattle.surd_number.specs.Exact.{IsWideOf}
 use Rattle.surd_number.specs.Value.{wide_number_of}
 use Rattle.surd_number.specs.declared.Wide.{Wide}
-use Rattle.surd_number.specs.Fits.{FitsOver, fits_same, fits_sum, fits_difference, fits_unit, fits_half_root, wide_from_fits}
+use Rattle.surd_number.specs.FitsLaws.{fits_same, fits_sum, fits_difference, fits_unit, fits_half_root, wide_from_fits}
 use Rattle.surd_number.proofs.tests.combined.Goals as goal
 
 pub plus-requires : goal.plus-requires

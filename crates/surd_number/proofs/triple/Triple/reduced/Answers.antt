@@ -2,7 +2,7 @@ use Rattle.std.proofs.Common.{ℤ, ◌*ℤ◌, ap, ◌∙◌, ◌≡◌, ◌+◌
 use Rattle.std.proofs.lemmas.Int.{to_z-of_z}
 use mir.Syntax.{w128}
 use Rattle.surd_number.specs.Number.{power}
-use Rattle.surd_number.specs.Canonical.{half-same, odd-least, is_odd}
+use Rattle.surd_number.specs.CanonicalLaws.{half-same, odd-least, is_odd}
 use Rattle.surd_number.proofs.triple.Triple.reduced.Goals as goal
 
 pub loop-k-preserved : goal.loop-k-preserved

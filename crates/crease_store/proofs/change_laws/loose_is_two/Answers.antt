@@ -1,5 +1,0 @@
-use Rattle.crease_store.proofs.MergeLaws.{loose_is_two}
-use Rattle.crease_store.proofs.change_laws.loose_is_two.Goals as goal
-
-pub returns : goal.returns
-returns c = loose_is_two

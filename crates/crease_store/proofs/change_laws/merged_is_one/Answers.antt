@@ -1,5 +1,0 @@
-use Rattle.crease_store.proofs.MergeLaws.{merged_is_one}
-use Rattle.crease_store.proofs.change_laws.merged_is_one.Goals as goal
-
-pub returns : goal.returns
-returns c = merged_is_one
