@@ -9,9 +9,8 @@ use Rattle.std.proofs.Math.Nat.{pow-succ', pow-le-pow_right, eq_of_mul-eq-mul_ri
 use Rattle.surd_number.specs.declared.Surd.{Surd}
 use Rattle.surd_number.specs.Number.{power}
 use Rattle.surd_number.specs.IntRing.{int_power_cancel}
-use Rattle.surd_number.specs.Exact.{IsSurdOf}
+use Rattle.surd_number.specs.Exact.{IsSurdOf, surd_of}
 use Rattle.surd_number.specs.Value.{number_of}
-use Rattle.surd_number.specs.Exact.{surd_of}
 use Rattle.surd_number.specs.ExactLaws.{surd_of-value}
 use Rattle.cp_text.specs.declared.number_reading.NumberFault.TheVariants.{NotExact}
 use Rattle.cp_text.specs.Digits.{digits_value, without_zeros, padded_digits}

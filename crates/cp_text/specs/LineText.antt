@@ -4,11 +4,11 @@ use Rattle.surd_number.specs.declared.Surd.{Surd}
 use Rattle.surd_number.specs.Value.{number_of}
 use Rattle.plane_geometry.specs.declared.Point.{Point}
 use Rattle.plane_geometry.specs.declared.Segment.{Segment}
-use Rattle.plane_geometry.specs.SegmentView.{lesser_end, greater_end}
 use Rattle.crease_model.specs.declared.Kind.{Kind}
 use Rattle.crease_model.specs.declared.Kind.TheVariants.{Edge, Mountain, Valley, Aux}
 use Rattle.crease_model.specs.declared.Piece.{Piece}
 use Rattle.crease_model.specs.View.{PatternView}
+use Rattle.crease_model.specs.OwnLines.{PlainLine, segment_line, piece_line, auxiliary_line}
 use Rattle.cp_text.specs.declared.line.CpLine.{CpLine}
 use Rattle.cp_text.specs.NumberText.{number_text}
 
@@ -52,19 +52,22 @@ rest_sides (first ∷ ps) last = side_lines_from first last
 abbrev pub side_lines : List Point → List CpLine
 side_lines corners = rest_sides corners corners
 
--- from the lesser end to the greater
-abbrev pub segment_line : Kind → Segment → CpLine
-segment_line kind s = line_between kind (lesser_end s) (greater_end s)
+-- a line of a pattern as a crease line
+abbrev pub crease_line : PlainLine → CpLine
+crease_line line = line_between line.kind line.from line.to
 
-abbrev pub piece_line : Piece → CpLine
-piece_line p = segment_line p.kind p.segment
+abbrev pub line_of_segment : Kind → Segment → CpLine
+line_of_segment kind s = crease_line (segment_line kind s)
 
-abbrev pub auxiliary_line : Segment → CpLine
-auxiliary_line s = segment_line Aux s
+abbrev pub line_of_piece : Piece → CpLine
+line_of_piece p = crease_line (piece_line p)
+
+abbrev pub line_of_auxiliary : Segment → CpLine
+line_of_auxiliary s = crease_line (auxiliary_line s)
 
 -- the sides of the sheet, the pieces and the auxiliary lines, each in order
 abbrev pub pattern_lines : PatternView → List CpLine
-pattern_lines p = side_lines p.corners ++ map piece_line p.pieces ++ map auxiliary_line p.aux
+pattern_lines p = side_lines p.corners ++ map line_of_piece p.pieces ++ map line_of_auxiliary p.aux
 
 abbrev pub lines_text : List CpLine → List ℕ
 lines_text lines = flat_map line_text lines

@@ -2,7 +2,7 @@
 
 ghost use Rattle.std.specs.Prelude.{◌≡◌, ◌+◌, ◌<◌, ◌++◌, ◌∷◌, OnOk, OnErr, map, length, drop, slice_index_or};
 ghost use Rattle.surd_number.specs.Value.{number_of};
-ghost use Rattle.cp_text.specs.LineText.{kind_digit, coordinate_text, point_text, line_body, line_text, line_between, side_lines, rest_sides, segment_line, piece_line, auxiliary_line, lines_text, pattern_lines, pattern_text};
+ghost use Rattle.cp_text.specs.LineText.{kind_digit, coordinate_text, point_text, line_body, line_text, line_between, side_lines, rest_sides, line_of_segment, line_of_piece, line_of_auxiliary, lines_text, pattern_lines, pattern_text};
 ghost use Rattle.cp_text.specs.Growth.{KeepsFront};
 
 use crate::appending::all_or_nothing;
@@ -104,7 +104,7 @@ fn put_sides(out: &mut Vec<u8>, corners: &[Point]) -> Result<(), AllocError>
 }
 
 fn put_segment(out: &mut Vec<u8>, kind: Kind, segment: &Segment) -> Result<(), AllocError>
-    ensures ok { OnOk result (out.new.items ≡ out.old.items ++ line_text (segment_line kind segment.now)) }
+    ensures ok { OnOk result (out.new.items ≡ out.old.items ++ line_text (line_of_segment kind segment.now)) }
     ensures err { OnErr result (KeepsFront out.old.items out.new.items) }
 {
     let line = CpLine {
@@ -117,7 +117,7 @@ fn put_segment(out: &mut Vec<u8>, kind: Kind, segment: &Segment) -> Result<(), A
 
 #[tactic(auto, using(crate::proofs::Fronts::fronts))]
 fn put_pieces(out: &mut Vec<u8>, pieces: &[Piece]) -> Result<(), AllocError>
-    ensures ok { OnOk result (out.new.items ≡ out.old.items ++ lines_text (map piece_line pieces.now)) }
+    ensures ok { OnOk result (out.new.items ≡ out.old.items ++ lines_text (map line_of_piece pieces.now)) }
     ensures err { OnErr result (KeepsFront out.old.items out.new.items) }
 {
     for piece in pieces {
@@ -128,7 +128,7 @@ fn put_pieces(out: &mut Vec<u8>, pieces: &[Piece]) -> Result<(), AllocError>
 
 #[tactic(auto, using(crate::proofs::Fronts::fronts))]
 fn put_auxiliary(out: &mut Vec<u8>, lines: &[Segment]) -> Result<(), AllocError>
-    ensures ok { OnOk result (out.new.items ≡ out.old.items ++ lines_text (map auxiliary_line lines.now)) }
+    ensures ok { OnOk result (out.new.items ≡ out.old.items ++ lines_text (map line_of_auxiliary lines.now)) }
     ensures err { OnErr result (KeepsFront out.old.items out.new.items) }
 {
     for line in lines {

@@ -8,12 +8,11 @@ use Rattle.plane_geometry.specs.declared.Point.{Point}
 use Rattle.crease_model.specs.View.{PatternView, empty_on}
 use Rattle.crease_model.specs.Sheet.{square_corners}
 use Rattle.crease_model.specs.NewSheet.{sheet_of}
-use Rattle.crease_store.specs.declared.faults.StoreFault.{StoreFault}
-use Rattle.crease_store.specs.declared.loading.LoadStoreFault.{LoadStoreFault}
+use Rattle.crease_store.specs.declared.faults.StoreRefusal.{StoreRefusal}
 use Rattle.crease_store.specs.Adding.{add_of}
 use Rattle.crease_store.specs.Changed.{delete_of, set_of, clear_of}
 use Rattle.crease_store.specs.Merged.{merge_of}
-use Rattle.crease_store.specs.Loading.{load_of}
+use Rattle.crease_store.specs.Loading.{LoadRefusal, load_of}
 use Rattle.undo_journal.specs.Versions.{JournalView, greatest_version, committed, undone, redone, pattern_at, current_pattern, KeepsPatterns}
 use Rattle.undo_journal.specs.Invariant.{IsJournal}
 use Rattle.undo_journal.specs.JournalLaws.{committed_keeps, committed_taken_back, redone_keeps, IsJournal-opened, IsJournal-committed, IsJournal-undone, IsJournal-redone}
@@ -56,7 +55,7 @@ version_commits s p =
           rw test (commits _ p refl (λ h. IsJournal-committed s.journal p h (omega (arith, h.most))))
     ]
 
-change_commits : (s : State) (r : Result PatternView StoreFault) → IsCommit s (change_answer s r)
+change_commits : (s : State) (r : Result PatternView StoreRefusal) → IsCommit s (change_answer s r)
 change_commits s (Ok p) = version_commits s p
 change_commits s (Err fault) = refuses _ refl refl
 
@@ -69,7 +68,7 @@ stop_commits s stop.Ended p = version_commits s p
 stop_commits s (stop.Bad number fault) p = refuses _ refl refl
 stop_commits s stop.Unended p = refuses _ refl refl
 
-load_commits : (s : State) (end : LoadStop) (r : Result PatternView LoadStoreFault) → IsCommit s (load_answer s end r)
+load_commits : (s : State) (end : LoadStop) (r : Result PatternView LoadRefusal) → IsCommit s (load_answer s end r)
 load_commits s end (Ok p) = stop_commits s end p
 load_commits s end (Err fault) = refuses _ refl refl
 

@@ -6,10 +6,10 @@ use Rattle.plane_geometry.specs.declared.Segment.{Segment}
 use Rattle.crease_model.specs.declared.Piece.{Piece}
 use Rattle.crease_model.specs.Sheet.{sides_from, sides_of}
 use Rattle.crease_model.specs.View.{PatternView}
-use Rattle.crease_model.specs.OwnLines.{PlainLine, side_line, piece_line as piece_loaded, auxiliary_line as auxiliary_loaded, own_lines}
+use Rattle.crease_model.specs.OwnLines.{PlainLine, side_line, piece_line, auxiliary_line, own_lines}
 use Rattle.crease_store.specs.OwnLines.{plain_line, OwnLinesAreLoaded}
 use Rattle.cp_text.specs.declared.line.CpLine.{CpLine}
-use Rattle.cp_text.specs.LineText.{side_lines_from, side_lines, piece_line, auxiliary_line, pattern_lines}
+use Rattle.cp_text.specs.LineText.{side_lines_from, side_lines, line_of_piece, line_of_auxiliary, pattern_lines}
 use Rattle.script_lang.specs.Laws.{numbered_lines, PrintedPatternsAreLoaded, PrintedPatternsComeBack}
 
 -- the line to load that a crease line is
@@ -29,20 +29,20 @@ sides_are : (corners : List Point) → map line_loaded (side_lines corners) ≡ 
 sides_are [] = refl
 sides_are (p ∷ ps) = sides_from_are p (p ∷ ps)
 
-pieces_are : (pieces : List Piece) → map line_loaded (map piece_line pieces) ≡ map piece_loaded pieces
+pieces_are : (pieces : List Piece) → map line_loaded (map line_of_piece pieces) ≡ map piece_line pieces
 pieces_are [] = refl
-pieces_are (p ∷ ps) = ap (λ ls. piece_loaded p ∷ ls) (pieces_are ps)
+pieces_are (p ∷ ps) = ap (λ ls. piece_line p ∷ ls) (pieces_are ps)
 
-auxiliary_are : (lines : List Segment) → map line_loaded (map auxiliary_line lines) ≡ map auxiliary_loaded lines
+auxiliary_are : (lines : List Segment) → map line_loaded (map line_of_auxiliary lines) ≡ map auxiliary_line lines
 auxiliary_are [] = refl
-auxiliary_are (s ∷ ss) = ap (λ ls. auxiliary_loaded s ∷ ls) (auxiliary_are ss)
+auxiliary_are (s ∷ ss) = ap (λ ls. auxiliary_line s ∷ ls) (auxiliary_are ss)
 
 lines_are_own : (p : PatternView) → map line_loaded (pattern_lines p) ≡ own_lines p
 lines_are_own p =
-    ap (map line_loaded) (append_assoc (side_lines p.corners) (map piece_line p.pieces) (map auxiliary_line p.aux))
-    ∙ map-append line_loaded (side_lines p.corners) (map piece_line p.pieces ++ map auxiliary_line p.aux)
+    ap (map line_loaded) (append_assoc (side_lines p.corners) (map line_of_piece p.pieces) (map line_of_auxiliary p.aux))
+    ∙ map-append line_loaded (side_lines p.corners) (map line_of_piece p.pieces ++ map line_of_auxiliary p.aux)
     ∙ ap₂ ◌++◌ (sides_are p.corners)
-    (map-append line_loaded (map piece_line p.pieces) (map auxiliary_line p.aux) ∙ ap₂ ◌++◌ (pieces_are p.pieces) (auxiliary_are p.aux))
+    (map-append line_loaded (map line_of_piece p.pieces) (map line_of_auxiliary p.aux) ∙ ap₂ ◌++◌ (pieces_are p.pieces) (auxiliary_are p.aux))
 
 pub printed_patterns_come_back : PrintedPatternsAreLoaded → OwnLinesAreLoaded → PrintedPatternsComeBack
 printed_patterns_come_back printed own p other rest rules sheet same =
