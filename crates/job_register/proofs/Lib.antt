@@ -1,3 +1,4 @@
 pub mod Records
 pub mod Replaying
+pub mod Told
 pub mod Versions

@@ -1,12 +1,12 @@
 //! The answer to one command.
 
-ghost use Rattle.std.specs.Prelude.{◌≡◌, IfOk, IfSome, IsSome, OnErr, IsTrue};
+ghost use Rattle.std.specs.Prelude.{◌≡◌, IfOk, OnErr, IsTrue};
 ghost use Rattle.std.specs.declared.result.Result.{Result};
 ghost use Rattle.crease_model.specs.View.{PatternView};
 ghost use Rattle.crease_store.specs.declared.faults.StoreRefusal.{StoreRefusal};
 ghost use Rattle.crease_model.specs.NewSheet.{sheet_of};
 ghost use Rattle.crease_model.specs.Rules.{size_of};
-ghost use Rattle.crease_store.specs.Answer.{IsAnswer, refusal_of};
+ghost use Rattle.crease_store.specs.Answer.{IsAnswer};
 ghost use Rattle.crease_store.specs.Loading.{load_of};
 ghost use Rattle.script_lang.specs.Script.{meets_condition};
 ghost use Rattle.job_register.specs.Machine.{answer, change_answer, version_answer, current_pattern_of, committed_answer, sheet_answer, load_answer, stop_answer};
@@ -51,6 +51,7 @@ fn commit(journal: &mut Journal, pattern: Pattern) -> Result<Reply, AllocError>
 }
 
 // Commits the pattern of a change, or answers why there is none.
+#[tactic(auto, using(crate::proofs::Told::refusal_told))]
 fn commit_change(
     journal: &mut Journal,
     change: Result<Pattern, StoreFault>,
@@ -104,21 +105,7 @@ fn stop(journal: &mut Journal, pattern: Pattern, end: LoadStop) -> Result<Reply,
     }
 }
 
-// The refusal of a line of a block; without memory there is none.
-fn refuse_line(number: u32, fault: StoreFault) -> Result<Reply, AllocError>
-    ensures { IfOk result (λ reply. IfSome (refusal_of fault) (λ refusal. reply ≡ Reply.Refused (Refusal.LoadLine number (LoadCause.Add refusal))) × IsSome (refusal_of fault)) }
-{
-    match fault.refusal() {
-        Some(refusal) => Ok(Reply::Refused {
-            refusal: Refusal::LoadLine {
-                number,
-                cause: LoadCause::Add { refusal },
-            },
-        }),
-        None => Err(AllocError),
-    }
-}
-
+#[tactic(auto, using(crate::proofs::Told::load_refusal_told))]
 fn load_block(
     alloc: Global,
     journal: &mut Journal,
@@ -131,7 +118,15 @@ fn load_block(
 {
     match load(alloc, journal.current_pattern(), lines.as_slice()) {
         Ok(pattern) => stop(journal, pattern, end),
-        Err(LoadStoreFault { number, fault }) => refuse_line(number, fault),
+        Err(LoadStoreFault { number, fault }) => match fault.refusal() {
+            Some(refusal) => Ok(Reply::Refused {
+                refusal: Refusal::LoadLine {
+                    number,
+                    cause: LoadCause::Add { refusal },
+                },
+            }),
+            None => Err(AllocError),
+        },
     }
 }
 
