@@ -1,9 +1,8 @@
 //! Blocks of lines, from `load` to `end`.
 
-use crate::runs::{Row, meets};
-use std::test::Fail;
+use crate::runs::Row;
 
-const BLOCKS: [Row; 10] = [
+pub const BLOCKS: [Row; 10] = [
     // An empty block, a block on what was there, and one with a line that overlaps another.
     (
         "2 0 -200 0 200\n\
@@ -248,11 +247,3 @@ const BLOCKS: [Row; 10] = [
         1,
     ),
 ];
-
-#[test]
-fn loads_blocks(rt: HostRuntime) -> Result<(), Fail> {
-    for row in BLOCKS {
-        meets(&rt, rt.alloc(), row)?;
-    }
-    Ok(())
-}

@@ -1,9 +1,8 @@
 //! Deleting, setting, merging, and other sheets.
 
-use crate::runs::{Row, meets};
-use std::test::Fail;
+use crate::runs::Row;
 
-const CHANGES: [Row; 5] = [
+pub const CHANGES: [Row; 5] = [
     // A piece goes by its two ends, in either order. A crease that was cut goes piece by piece, and what it cut stays
     // cut.
     (
@@ -167,15 +166,7 @@ const CHANGES: [Row; 5] = [
     ),
 ];
 
-#[test]
-fn deletes_and_sets(rt: HostRuntime) -> Result<(), Fail> {
-    for row in CHANGES {
-        meets(&rt, rt.alloc(), row)?;
-    }
-    Ok(())
-}
-
-const MERGES: [Row; 6] = [
+pub const MERGES: [Row; 6] = [
     // A chain of four pieces becomes one; another is kept apart by the kind, a third by a crease.
     (
         "2 -100 -200 -100 -50\n\
@@ -401,15 +392,7 @@ const MERGES: [Row; 6] = [
     ),
 ];
 
-#[test]
-fn merges_chains(rt: HostRuntime) -> Result<(), Fail> {
-    for row in MERGES {
-        meets(&rt, rt.alloc(), row)?;
-    }
-    Ok(())
-}
-
-const SHEETS: [Row; 6] = [
+pub const SHEETS: [Row; 6] = [
     // A sheet begins at its least corner and has nothing on it.
     (
         "2 0 -200 0 200\n\
@@ -567,11 +550,3 @@ const SHEETS: [Row; 6] = [
         1,
     ),
 ];
-
-#[test]
-fn begins_other_sheets(rt: HostRuntime) -> Result<(), Fail> {
-    for row in SHEETS {
-        meets(&rt, rt.alloc(), row)?;
-    }
-    Ok(())
-}

@@ -1,9 +1,8 @@
 //! Local checks, and the pieces that are checked.
 
-use crate::runs::{Row, meets};
-use std::test::Fail;
+use crate::runs::Row;
 
-const CHECKS: [Row; 6] = [
+pub const CHECKS: [Row; 6] = [
     // Three mountains and a valley, two by two in line: nothing is at fault.
     (
         "2 0 -200 0 200\n\
@@ -91,11 +90,3 @@ const CHECKS: [Row; 6] = [
         1,
     ),
 ];
-
-#[test]
-fn checks_the_vertices_inside(rt: HostRuntime) -> Result<(), Fail> {
-    for row in CHECKS {
-        meets(&rt, rt.alloc(), row)?;
-    }
-    Ok(())
-}

@@ -1,9 +1,8 @@
 //! Creases that lie beside one another, touch, cross and overlap, and creases in all directions.
 
-use crate::runs::{Row, meets};
-use std::test::Fail;
+use crate::runs::Row;
 
-const CREASES: [Row; 14] = [
+pub const CREASES: [Row; 14] = [
     // Four creases that end at the middle are listed by their lesser ends.
     (
         "3 0 0 100 0\n\
@@ -490,11 +489,3 @@ const CREASES: [Row; 14] = [
         1,
     ),
 ];
-
-#[test]
-fn adds_creases(rt: HostRuntime) -> Result<(), Fail> {
-    for row in CREASES {
-        meets(&rt, rt.alloc(), row)?;
-    }
-    Ok(())
-}

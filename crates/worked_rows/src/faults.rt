@@ -1,85 +1,105 @@
 //! Runs whose reads or writes fail, whose sink is full, or whose words are refused.
 
-use crate::runs::{ROOM, answer};
-use oriedita_cli::run;
+ghost use Rattle.std.specs.Prelude.{◌≤◌};
+
+use crate::runs::{CountedSink, ROOM, answer};
+use oriedita_cli::{run, run_arguments};
 use oriedita_io::{MemSink, MemSource};
+use std::alloc::{AllocError, Global};
+use std::io;
+use std::io::ErrorKind;
+use std::process::Abort;
 use std::test::Fail;
 
 const SCRIPT: &[u8] = b"2 0 -200 0 200\nredo\nundo\n";
 
 const REPLIES: &[u8] = b"version 1 pieces 1\nrefused nothingtoredo\nversion 0 pieces 0\n";
 
-// One read more than there are bytes: the last tells the end.
+// Runs the script with at most so many bytes a call and so much room in the sink, where the listed reads and writes fail.
+// Compares the status, how many bytes of the replies were written, and how often the sink was finished.
+fn ends(
+    rt: &impl Abort,
+    alloc: Global,
+    most: usize,
+    room: usize,
+    reads: &[u64],
+    writes: &[u64],
+    wanted: (u8, usize, u32),
+) -> Result<(), AllocError>
+    requires { 1 ≤ most }
+{
+    let (status, sink) = answer(alloc, SCRIPT, most, room, reads, writes)?;
+    let ended = (status, sink.bytes().len(), sink.finishes());
+    assert_eq!(rt; ended, wanted, "{reads:?} {writes:?} {room}");
+    assert!(rt;
+        REPLIES.starts_with(sink.bytes()),
+        "{reads:?} {writes:?} {room}"
+    );
+    Ok(())
+}
+
+// Reads and writes of one byte: one read more than there are bytes tells the end, and one call more than there are
+// bytes to write finishes the output. After a failed read nothing is answered, and the output is finished; after a
+// failed write it is not.
 #[test]
-fn a_failed_read_answers_nothing(rt: HostRuntime) -> Result<(), Fail> {
+fn a_fault_ends_the_run(rt: HostRuntime) -> Result<(), Fail> {
+    let alloc = rt.alloc();
+    let whole = REPLIES.len();
     for read in 1..=26 {
-        let (status, sink) = answer(rt.alloc(), SCRIPT, 1, ROOM, &[read], &[])?;
-        assert_eq!(rt; status, 3, "{read}");
-        assert_eq!(rt; sink.bytes().len(), 0, "{read}");
-        assert!(rt; sink.finished(), "{read}");
+        ends(&rt, alloc, 1, ROOM, &[read], &[], (3, 0, 1))?;
     }
-    let (status, sink) = answer(rt.alloc(), SCRIPT, 1, ROOM, &[27], &[])?;
-    assert_eq!(rt; status, 1);
-    assert_eq!(rt; sink.bytes(), REPLIES);
-    Ok(())
-}
-
-// One call more than there are bytes: the last finishes.
-#[test]
-fn a_failed_write_leaves_what_was_written(rt: HostRuntime) -> Result<(), Fail> {
-    let mut call = 1_u64;
-    for written in 0..=REPLIES.len() {
-        let (status, sink) = answer(rt.alloc(), SCRIPT, 1, ROOM, &[], &[call])?;
-        assert_eq!(rt; status, 4, "{call}");
-        assert_eq!(rt; sink.bytes(), &REPLIES[..written], "{call}");
-        assert!(rt; !sink.finished(), "{call}");
+    ends(&rt, alloc, 1, ROOM, &[27], &[], (1, whole, 1))?;
+    let mut call = 0_u64;
+    for written in 0..whole {
         call = call.saturating_add(1);
+        ends(&rt, alloc, 1, ROOM, &[], &[call], (4, written, 0))?;
+        ends(&rt, alloc, 7, written, &[], &[], (4, written, 0))?;
     }
-    let (status, sink) = answer(rt.alloc(), SCRIPT, 1, ROOM, &[], &[call])?;
-    assert_eq!(rt; status, 1);
-    assert_eq!(rt; sink.bytes(), REPLIES);
+    ends(&rt, alloc, 7, whole, &[], &[], (1, whole, 1))?;
+    let finish = call.saturating_add(1);
+    let later = finish.saturating_add(1);
+    ends(&rt, alloc, 1, ROOM, &[], &[finish], (4, whole, 1))?;
+    ends(&rt, alloc, 1, ROOM, &[], &[later], (1, whole, 1))?;
+    // A read fault and a fault of the finish after it: the last one decides.
+    ends(&rt, alloc, 1, ROOM, &[2], &[1], (4, 0, 1))?;
     Ok(())
 }
 
-// A read fault and a fault of the finish after it: the last one decides.
-#[test]
-fn a_failed_read_and_a_failed_finish(rt: HostRuntime) -> Result<(), Fail> {
-    let (status, sink) = answer(rt.alloc(), SCRIPT, 1, ROOM, &[2], &[1])?;
-    assert_eq!(rt; status, 4);
-    assert_eq!(rt; sink.bytes().len(), 0);
-    assert!(rt; !sink.finished());
-    Ok(())
-}
+// How many arguments there are, the program's name among them, or why they are not told; and the status.
+const ARGUMENTS: [(Result<usize, ErrorKind>, u8); 5] = [
+    (Ok(0), 1),
+    (Ok(1), 1),
+    (Ok(2), 2),
+    (Err(ErrorKind::InvalidData), 2),
+    (Err(ErrorKind::OutOfMemory), 6),
+];
 
-#[test]
-fn a_full_sink_holds_a_prefix(rt: HostRuntime) -> Result<(), Fail> {
-    for room in 0..REPLIES.len() {
-        let (status, sink) = answer(rt.alloc(), SCRIPT, 7, room, &[], &[])?;
-        assert_eq!(rt; status, 4, "{room}");
-        assert_eq!(rt; sink.bytes(), &REPLIES[..room]);
-    }
-    let (status, sink) = answer(rt.alloc(), SCRIPT, 7, REPLIES.len(), &[], &[])?;
-    assert_eq!(rt; status, 1);
-    assert_eq!(rt; sink.bytes(), REPLIES);
-    Ok(())
-}
-
-// A run without words afterwards finds the source and the sink as they were.
+// A run that takes no words afterwards finds the source and the sink as they were.
 #[test]
 fn words_are_refused_before_anything_is_read(rt: HostRuntime) -> Result<(), Fail> {
     let alloc = rt.alloc();
-    let mut words = Vec::new(alloc);
-    words.push(String::new(alloc))?;
-    let script = SCRIPT.to_vec(alloc)?;
-    let mut source = MemSource::new(script, 7, Vec::new(alloc));
-    let mut sink = MemSink::new(alloc, 7, ROOM, Vec::new(alloc))?;
-    let refused = run(alloc, words.as_slice(), &mut source, &mut sink);
-    assert_eq!(rt; refused.status, 2);
-    assert_eq!(rt; sink.bytes().len(), 0);
-    assert!(rt; !sink.finished());
-    words.clear();
-    let ended = run(alloc, words.as_slice(), &mut source, &mut sink);
-    assert_eq!(rt; ended.status, 1);
-    assert_eq!(rt; sink.bytes(), REPLIES);
+    for (told, status) in ARGUMENTS {
+        let mut source = MemSource::new(SCRIPT.to_vec(alloc)?, 7, Vec::new(alloc));
+        let mut sink = CountedSink::new(MemSink::new(alloc, 7, ROOM, Vec::new(alloc))?);
+        let arguments = match told {
+            Ok(count) => {
+                let mut arguments = Vec::new(alloc);
+                for _ in 0..count {
+                    arguments.push(String::new(alloc))?;
+                }
+                Ok(arguments.into_iter())
+            }
+            Err(kind) => Err(io::Error::from(kind)),
+        };
+        let ended = run_arguments(alloc, arguments, &mut source, &mut sink);
+        assert_eq!(rt; ended.status, status, "{told:?}");
+        if status > 1 {
+            assert_eq!(rt; (sink.bytes().len(), sink.finishes()), (0, 0), "{told:?}");
+            let ended = run(alloc, &[], &mut source, &mut sink);
+            assert_eq!(rt; ended.status, 1, "{told:?}");
+        }
+        assert_eq!(rt; sink.bytes(), REPLIES, "{told:?}");
+        assert!(rt; sink.finished_once(), "{told:?}");
+    }
     Ok(())
 }

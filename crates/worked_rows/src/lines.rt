@@ -1,10 +1,10 @@
 //! How a script falls into lines and words, and how a line is judged.
 
-use crate::runs::{ROOM, Row, answer, has_text, meets};
+use crate::runs::{ROOM, Row, answer, has_text};
 use std::alloc::{AllocError, Global};
 use std::test::Fail;
 
-const LINES: [Row; 9] = [
+pub const LINES: [Row; 9] = [
     (
         "2 0 -200 0 200\r\nundo\r\n",
         "version 1 pieces 1\nversion 0 pieces 0\n",
@@ -142,14 +142,6 @@ const LINES: [Row; 9] = [
         1,
     ),
 ];
-
-#[test]
-fn judges_each_line(rt: HostRuntime) -> Result<(), Fail> {
-    for row in LINES {
-        meets(&rt, rt.alloc(), row)?;
-    }
-    Ok(())
-}
 
 // A text, then a word filled up with spaces to a length, then the end of the line.
 fn padded(

@@ -1,6 +1,11 @@
 //! Scripts of every command, their replies and their statuses.
 
-use crate::runs::{Row, meets};
+use crate::blocks::BLOCKS;
+use crate::changes::{CHANGES, MERGES, SHEETS};
+use crate::checks::CHECKS;
+use crate::creases::CREASES;
+use crate::lines::LINES;
+use crate::runs::{Row, all_meet};
 use std::test::Fail;
 
 const COMMANDS: [Row; 16] = [
@@ -204,14 +209,6 @@ const COMMANDS: [Row; 16] = [
         0,
     ),
 ];
-
-#[test]
-fn answers_each_command(rt: HostRuntime) -> Result<(), Fail> {
-    for row in COMMANDS {
-        meets(&rt, rt.alloc(), row)?;
-    }
-    Ok(())
-}
 
 const HISTORIES: [Row; 8] = [
     // A change after an undo begins another branch, and nothing is left to redo.
@@ -533,10 +530,18 @@ const HISTORIES: [Row; 8] = [
     ),
 ];
 
+// One test over all tables: each test function is proved.
 #[test]
-fn goes_back_and_forth(rt: HostRuntime) -> Result<(), Fail> {
-    for row in HISTORIES {
-        meets(&rt, rt.alloc(), row)?;
-    }
+fn answers_each_row(rt: HostRuntime) -> Result<(), Fail> {
+    let alloc = rt.alloc();
+    all_meet(&rt, alloc, &COMMANDS)?;
+    all_meet(&rt, alloc, &HISTORIES)?;
+    all_meet(&rt, alloc, &LINES)?;
+    all_meet(&rt, alloc, &CREASES)?;
+    all_meet(&rt, alloc, &CHANGES)?;
+    all_meet(&rt, alloc, &MERGES)?;
+    all_meet(&rt, alloc, &SHEETS)?;
+    all_meet(&rt, alloc, &CHECKS)?;
+    all_meet(&rt, alloc, &BLOCKS)?;
     Ok(())
 }

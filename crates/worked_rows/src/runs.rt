@@ -3,7 +3,7 @@
 ghost use Rattle.std.specs.Prelude.{◌≤◌};
 
 use oriedita_cli::run;
-use oriedita_io::{MemSink, MemSource};
+use oriedita_io::{Failed, MemSink, MemSource, Sink};
 use std::alloc::{AllocError, Global};
 use std::process::Abort;
 use std::str;
@@ -13,6 +13,52 @@ pub const ROOM: usize = 65_536;
 
 /// A script, the text of its replies and the exit status.
 pub type Row = (&'static str, &'static str, u8);
+
+/// A sink in memory that counts how often it is finished.
+#[derive(Drop)]
+pub struct CountedSink {
+    sink: MemSink,
+    finishes: u32,
+}
+
+impl CountedSink {
+    pub fn new(sink: MemSink) -> CountedSink {
+        CountedSink { sink, finishes: 0 }
+    }
+
+    pub fn bytes(&self) -> &[u8] {
+        self.sink.bytes()
+    }
+
+    /// Whether it was finished, just once, and took no byte since.
+    pub fn finished_once(&self) -> bool {
+        self.sink.finished() && self.finishes == 1
+    }
+
+    /// How often it was finished, well or not.
+    pub fn finishes(&self) -> u32 {
+        self.finishes
+    }
+}
+
+impl Sink for CountedSink {
+    ghost use Rattle.std.specs.Prelude.{Some};
+
+    ghost faults = { λ s. s.sink.faults };
+
+    ghost taken = { λ s. Some s.sink.taken };
+
+    ghost finished = { λ s. Some s.sink.finished };
+
+    fn write(&mut self, bytes: &[u8]) -> Result<usize, Failed> {
+        self.sink.write(bytes)
+    }
+
+    fn finish(&mut self) -> Result<(), Failed> {
+        self.finishes = self.finishes.saturating_add(1);
+        self.sink.finish()
+    }
+}
 
 /// Runs a script without words. The source and the sink pass on at most `most` bytes a call, the sink takes `room`
 /// bytes in all, and the listed calls of each fail, counted from 1. The answer is the exit status, and the sink as it
@@ -24,19 +70,20 @@ pub fn answer(
     room: usize,
     failing_reads: &[u64],
     failing_writes: &[u64],
-) -> Result<(u8, MemSink), AllocError>
+) -> Result<(u8, CountedSink), AllocError>
     requires { 1 ≤ most }
 {
     let words: Vec<String> = Vec::new(alloc);
     let script = script.to_vec(alloc)?;
     let mut source = MemSource::new(script, most, failing_reads.to_vec(alloc)?);
-    let mut sink = MemSink::new(alloc, most, room, failing_writes.to_vec(alloc)?)?;
+    let sink = MemSink::new(alloc, most, room, failing_writes.to_vec(alloc)?)?;
+    let mut sink = CountedSink::new(sink);
     let ended = run(alloc, words.as_slice(), &mut source, &mut sink);
     Ok((ended.status, sink))
 }
 
 /// Compares what a sink took with a text.
-pub fn has_text(rt: &impl Abort, sink: &MemSink, replies: &str, script: &str) {
+pub fn has_text(rt: &impl Abort, sink: &CountedSink, replies: &str, script: &str) {
     let taken = str::from_utf8(sink.bytes()).unwrap_or("no text");
     assert_eq!(rt; taken, replies, "the replies to {script}");
 }
@@ -48,12 +95,15 @@ fn row_by(rt: &impl Abort, alloc: Global, row: Row, most: usize) -> Result<(), A
     let (ended, sink) = answer(alloc, script.as_bytes(), most, ROOM, &[], &[])?;
     has_text(rt, &sink, replies, script);
     assert_eq!(rt; ended, status, "the status of {script}");
-    assert!(rt; sink.finished(), "{script}");
+    assert!(rt; sink.finished_once(), "{script}");
     Ok(())
 }
 
-/// Runs a script whose reads and writes are large, and one byte at a time, and compares both runs with the row.
-pub fn meets(rt: &impl Abort, alloc: Global, row: Row) -> Result<(), AllocError> {
-    row_by(rt, alloc, row, ROOM)?;
-    row_by(rt, alloc, row, 1)
+/// Runs each script with large reads and writes, and one byte at a time, and compares both runs with its row.
+pub fn all_meet(rt: &impl Abort, alloc: Global, rows: &[Row]) -> Result<(), AllocError> {
+    for row in rows {
+        row_by(rt, alloc, *row, ROOM)?;
+        row_by(rt, alloc, *row, 1)?;
+    }
+    Ok(())
 }
