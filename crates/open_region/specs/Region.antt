@@ -61,7 +61,7 @@ HasPoint r = (p : Position) × IsInRegion p r
 abbrev pub HasPointLeftOf : Region → Position → ℕ → Type 0
 HasPointLeftOf r q n = (p : Position) × IsInRegion p r × IsLeftOf p q n
 
--- at the height y
+-- some point of r is at the height y
 abbrev pub IsHeight : Region → Number → Type 0
 IsHeight r y = (x : Number) × IsInRegion (record { x = x; y = y }) r
 

@@ -35,7 +35,7 @@ abbrev pub HoldsAcross : Region → ℕ → Number → ℕ → Number → Type 0
 HoldsAcross r n right k y =
     IfSome (edge_at r (k + 8)) (λ left. HoldsAt y (strip_bound n right k (line_offset_of left)))
 
--- and for each line that runs down
+-- and for each of directions 9 to 15
 abbrev pub HoldsAcrossAll : Region → ℕ → Number → Number → Type 0
 HoldsAcrossAll r n right y = (k : ℕ) → k < 8 → 1 ≤ k → HoldsAcross r n right k y
 

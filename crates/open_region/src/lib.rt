@@ -235,7 +235,7 @@ impl Region {
         self.along_edge(above, 8, &origin, UPWARDS)
     }
 
-    /// Those heights at which the line in direction `n` leaves room for each that runs down.
+    /// Those heights at which the line in direction `n` leaves room for each in directions 9 to 15.
     fn crossed(&self, heights: Interval, n: u8) -> Interval
         requires rises { 1 ≤ n }
         requires few { n < 8 }
@@ -247,7 +247,7 @@ impl Region {
         }
     }
 
-    /// The same for its edge.
+    /// The same for an edge in direction `n`.
     fn crossed_by(&self, heights: Interval, n: u8, right: &Edge) -> Interval
         requires rises { 1 ≤ n }
         requires few { n < 8 }
