@@ -1,11 +1,13 @@
 #!/usr/bin/env bash
-# Measures the exact numbers against plain Rust, and the reading of script text against `wc -w`. Its word is the number
-# of rounds (12000 where there is none). Times are processor times, the best of five.
+# Measures the exact numbers and the tests of open regions against plain Rust, and the reading of script text against
+# `wc -w`. Its word is the number of rounds of numbers (12000 where there is none). Times are processor times, the best of
+# five.
 cd "$(dirname "$0")" || exit 1
 rounds="${1:-12000}"
 times=5
 TIMEFORMAT='%U %S'
-proved=../crates/bench_numbers/out/bench_numbers
+# a million tests of pairs
+region_rounds=3907
 editor=../crates/oriedita/out/oriedita
 folder="$(mktemp -d /tmp/bench.XXXXXX)" || exit 1
 trap 'rm -rf "$folder"' EXIT
@@ -26,12 +28,12 @@ race() {
     done | awk 'NR == 1 { a = $1; b = $2 } { if ($1 < a) a = $1; if ($2 < b) b = $2 } END { print a, b }'
 }
 
-# Stops unless both programs print the same checksum.
+# same_checksums OURS THEIRS ROUNDS: stops unless both programs print the same checksum.
 same_checksums() {
     local count ours theirs
-    for count in 1 3 "$rounds"; do
-        ours=$("$proved" "$count")
-        theirs=$("$folder/numbers" "$count")
+    for count in 1 3 "$3"; do
+        ours=$("$1" "$count")
+        theirs=$("$2" "$count")
         if [ -z "$ours" ] || [ "$ours" != "$theirs" ]; then
             echo "the checksums of $count rounds differ: '$ours' and '$theirs'"
             exit 1
@@ -40,12 +42,14 @@ same_checksums() {
     echo "checksum   $ours"
 }
 
-numbers() {
-    echo "== exact numbers, $rounds rounds"
-    (cd ../crates/bench_numbers && rt run -- 1) >"$folder/log" 2>&1 || { cat "$folder/log"; exit 1; }
-    rustc -O --edition 2024 -o "$folder/numbers" numbers.rs || exit 1
-    same_checksums
-    race /dev/null "$proved $rounds" "$folder/numbers $rounds" | awk '{
+# beside NAME ROUNDS: the proved program crates/bench_NAME beside NAME.rs.
+beside() {
+    local proved="../crates/bench_$1/out/bench_$1"
+    echo "== $1, $2 rounds"
+    (cd "../crates/bench_$1" && rt run -- 1) >"$folder/log" 2>&1 || { cat "$folder/log"; exit 1; }
+    rustc -O --edition 2024 -o "$folder/$1" "$1.rs" || exit 1
+    same_checksums "$proved" "$folder/$1" "$2"
+    race /dev/null "$proved $2" "$folder/$1 $2" | awk '{
         printf "proved     %s s\nplain Rust %s s\nratio      %.2f\n", $1, $2, $1 / $2 }'
 }
 
@@ -74,7 +78,8 @@ text() {
         printf "editor     %s s, %.0f bytes a second\nwc -w      %s s, %.0f bytes a second\n", $1, bytes / $1, $2, bytes / $2 }'
 }
 
-numbers
+beside numbers "$rounds"
+beside regions "$region_rounds"
 if [ -x "$editor" ]; then
     text zerolength
     text onborder
