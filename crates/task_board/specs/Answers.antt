@@ -60,8 +60,8 @@ is_busy_at es seat n = is_ticket (is_busy_for seat) (ticket_at (replay_of es) n)
 abbrev pub is_free_at : List Event → ℕ → ℕ → Bool
 is_free_at es seat n = is_answered_at es seat n || is_idle_at es seat n
 
--- the seat's ticket is gone from now on, whether its outcome came; or there is none to take out; or another seat works
--- on it
+-- the seat's ticket is gone from now on, whether its outcome came; or there is none to take out; or another seat
+-- works on it
 abbrev pub TakesOut : List Event → ℕ → ℕ → Result (Option Bool) Waits → List Event → Type 0
 TakesOut old seat n (Ok (Some found)) new = Adds old (event seat (Obtain n found)) new
 TakesOut old seat n (Ok None) new =
@@ -69,7 +69,7 @@ TakesOut old seat n (Ok None) new =
     × (new ≡ old)
 TakesOut old seat n (Err w) new = (is_busy_at old seat n ≡ true) × (new ≡ old)
 
--- the outcome of the seat's ticket; or it has none, and it is gone if the seat put it; or another seat works on it
+-- the outcome of the seat's ticket; or it has none, and is gone if the seat put it; or another works on it
 abbrev pub IsObtain : {X : Type 0} → List Event → ℕ → ℕ → Result (Option X) Waits → List Event → Type 0
 IsObtain old seat n (Ok (Some x)) new = Adds old (event seat (Obtain n true)) new
 IsObtain old seat n (Ok None) new =

@@ -1,5 +1,5 @@
--- The board's history: a list of events, each a step of a seat with its answer. A history is legal where each step has
--- the answer that the events before it give.
+-- The board's history: a list of events, each a step of a seat with its answer. A history is legal where each
+-- step has the answer that the events before it give.
 use Rattle.std.specs.Prelude.{◌≡◌, ℕ, ◌+◌, ◌==◌, nat_lt, Bool, true, false, not, ◌&&◌, List, [], ◌∷◌, ◌++◌, length, Option, None, Some, slice_index_or, slice_set, replicate, if◌then◌else◌}
 use Rattle.std.specs.List.{list_any}
 use Rattle.task_board.specs.Numbers.{at_number, put_at}
@@ -10,8 +10,8 @@ use Rattle.task_board.specs.declared.event.Step.{Step}
 use Rattle.task_board.specs.declared.event.Step.TheVariants.{Put, Take, Post, GiveBack, Fetch, Obtain, Close}
 use Rattle.task_board.specs.declared.event.Event.{Event}
 
--- What a history leaves: the tickets, the first one first; whether the board is closed; for each seat whether it has
--- closed, and whether a take told it that the board is closed.
+-- What a history leaves: the tickets, the first one first; whether the board is closed; for each seat whether it
+-- has closed, and whether a take told it that the board is closed.
 pub record Replay : Type 0 where
   pub tickets : List Ticket
   pub is_closed : Bool
@@ -107,12 +107,14 @@ moved r n stand = moved_from r n stand (ticket_at r n)
   where
     moved_from : Replay → ℕ → Stand → Option Ticket → Replay
     moved_from r n stand None = r
-    moved_from r n stand (Some t) = record r { tickets = put_at r.tickets n (record { owner = t.owner; stand = stand }) }
+    moved_from r n stand (Some t) =
+        record r { tickets = put_at r.tickets n (record { owner = t.owner; stand = stand }) }
 
 -- what the step leaves
 abbrev pub after_step : Replay → ℕ → Step → Replay
 after_step r seat (Put None) = r
-after_step r seat (Put (Some n)) = record r { tickets = r.tickets ++ record { owner = seat; stand = Waiting } ∷ [] }
+after_step r seat (Put (Some n)) =
+    record r { tickets = r.tickets ++ record { owner = seat; stand = Waiting } ∷ [] }
 after_step r seat (Take None) = record r { was_told = slice_set r.was_told seat true }
 after_step r seat (Take (Some n)) = moved r n (Taken seat)
 after_step r seat (Post n) = moved r n Posted

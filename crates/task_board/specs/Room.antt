@@ -19,4 +19,5 @@ owed_until true = 0
 owed_until false = 1
 
 abbrev pub owed_of : Replay → ℕ
-owed_of r = sum_by (λ t. owed_at t.stand) r.tickets + (sum_by owed_until r.has_closed + sum_by owed_until r.was_told)
+owed_of r =
+    sum_by (λ t. owed_at t.stand) r.tickets + (sum_by owed_until r.has_closed + sum_by owed_until r.was_told)

@@ -19,7 +19,8 @@ module _ {W L T O S : Type 0} {g : Ghosts W T O S} where
 
 module _ {W T O S X : Type 0} {g : Ghosts W T O S} where
   -- nothing stands beside a ticket that was answered
-  abbrev pub taken_out : (X → ℕ) → Result (Option X) Waits → List (Content W T O S g) → List (Content W T O S g)
+  abbrev pub taken_out : (X → ℕ) → Result (Option X) Waits
+      → List (Content W T O S g) → List (Content W T O S g)
   taken_out number (Ok (Some x)) cs = put_at cs (number x) Nothing
   taken_out number (Ok None) cs = cs
   taken_out number (Err w) cs = cs

@@ -46,7 +46,7 @@ impl Model for History {
 }
 
 impl History {
-    ghost use Rattle.task_board.specs.Answers.{IsPut, IsTake, TakesOut};
+    ghost use Rattle.task_board.specs.Answers.{event, IsPut, IsTake, TakesOut};
 
     /// A history with no event, and the room for each seat's close and its last take.
     pub fn open(alloc: Global) -> Result<History, AllocError>
@@ -92,10 +92,12 @@ impl History {
     /// Moves a ticket, for which there is room.
     fn advance(&mut self, seat: u32, number: u32, stand: Stand, step: Step)
         requires next { is_next_step (replay_of self.old) seat step ≡ true }
-        requires leaves { after_step (replay_of self.old) seat step ≡ moved (replay_of self.old) number stand }
-        requires room { MatchOption (ticket_at (replay_of self.old) number) ⊥ (λ t. owed_at stand < owed_at t.stand) }
+        requires leaves { after_step (replay_of self.old) seat step
+            ≡ moved (replay_of self.old) number stand }
+        requires room { MatchOption (ticket_at (replay_of self.old) number) ⊥
+            (λ t. owed_at stand < owed_at t.stand) }
         requires other { is_waiting (record { owner = 0; stand = stand }) ≡ false }
-        ensures { self.new ≡ self.old ++ record { seat = seat; step = step } ∷ [] }
+        ensures { self.new ≡ self.old ++ event seat step ∷ [] }
     {
         let place = number as usize - 1;
         let ticket = self.tickets[place];
@@ -111,7 +113,7 @@ impl History {
     fn note(&mut self, seat: u32, step: Step) -> Result<(), AllocError>
         requires next { is_next_step (replay_of self.old) seat step ≡ true }
         requires leaves { after_step (replay_of self.old) seat step ≡ replay_of self.old }
-        ensures ok { OnOk result (self.new ≡ self.old ++ record { seat = seat; step = step } ∷ []) }
+        ensures ok { OnOk result (self.new ≡ self.old ++ event seat step ∷ []) }
         ensures err { OnErr result (self.new ≡ self.old) }
     {
         self.events.reserve(self.owed + 1)?;
@@ -123,7 +125,7 @@ impl History {
     fn issue(&mut self, seat: u32) -> Result<u32, AllocError>
         requires opened { (replay_of self.old).is_closed ≡ false }
         requires left { length (replay_of self.old).tickets < 4294967295 }
-        ensures ok { IfOk result (λ n. Adds self.old (record { seat = seat; step = Put (Some n) }) self.new) }
+        ensures ok { IfOk result (λ n. Adds self.old (event seat (Put (Some n))) self.new) }
         ensures err { OnErr result (self.new ≡ self.old) }
     {
         self.events.reserve(self.owed + 4)?;
@@ -182,7 +184,7 @@ impl History {
     fn tell(&mut self, seat: u32)
         requires seat { seat < 9 }
         requires closed { (replay_of self.old).is_closed ≡ true }
-        ensures { self.new ≡ added self.old (record { seat = seat; step = Take None }) }
+        ensures { self.new ≡ added self.old (event seat (Take None)) }
     {
         if !self.was_told[seat as usize] {
             self.was_told[seat as usize] = true;
@@ -199,7 +201,7 @@ impl History {
     /// A seat posts the outcome of a ticket that it has taken.
     pub fn post(&mut self, seat: u32, number: u32) -> bool
         ensures value { result ≡ is_next_step (replay_of self.old) seat (Post number) }
-        ensures after { self.new ≡ added self.old (record { seat = seat; step = Post number }) }
+        ensures after { self.new ≡ added self.old (event seat (Post number)) }
     {
         let taken = is_taken(self.ticket(number), seat);
         if taken {
@@ -211,7 +213,7 @@ impl History {
     /// A seat leaves a ticket that it has taken for its owner.
     pub fn give_back(&mut self, seat: u32, number: u32) -> bool
         ensures value { result ≡ is_next_step (replay_of self.old) seat (GiveBack number) }
-        ensures after { self.new ≡ added self.old (record { seat = seat; step = GiveBack number }) }
+        ensures after { self.new ≡ added self.old (event seat (GiveBack number)) }
     {
         let taken = is_taken(self.ticket(number), seat);
         if taken {
@@ -222,7 +224,7 @@ impl History {
 
     /// A seat asks for the outcome of a ticket. Whether it has come.
     pub fn fetch(&mut self, seat: u32, number: u32) -> Result<bool, AllocError>
-        ensures ok { IfOk result (λ found. Adds self.old (record { seat = seat; step = Fetch number found }) self.new) }
+        ensures ok { IfOk result (λ found. Adds self.old (event seat (Fetch number found)) self.new) }
         ensures err { OnErr result (self.new ≡ self.old) }
     {
         let found = is_answered(self.ticket(number), seat);
@@ -234,7 +236,7 @@ impl History {
         Ok(found)
     }
 
-    /// A seat takes a ticket out that it put. Whether its outcome has come; `None` where there is nothing to take out.
+    /// A seat takes a ticket out that it put. Whether its outcome has come; `None` where there is none to take out.
     pub fn obtain(&mut self, seat: u32, number: u32) -> Result<Option<bool>, Waits>
         ensures { TakesOut self.old seat number result self.new }
     {
@@ -256,7 +258,7 @@ impl History {
     pub fn close(&mut self, seat: u32) -> bool
         requires { seat < 9 }
         ensures value { result ≡ is_next_step (replay_of self.old) seat Close }
-        ensures after { self.new ≡ added self.old (record { seat = seat; step = Close }) }
+        ensures after { self.new ≡ added self.old (event seat Close) }
     {
         let closes = !self.has_closed[seat as usize];
         if closes {
@@ -293,7 +295,8 @@ fn first_waiting(tickets: &[Ticket], from: usize) -> usize
     requires passed { (k : ℕ) → k < from → is_ticket is_waiting (slice_get tickets.now k) ≡ false }
     ensures within { result ≤ length tickets.now }
     ensures passed { (k : ℕ) → k < result → is_ticket is_waiting (slice_get tickets.now k) ≡ false }
-    ensures found { result < length tickets.now → is_ticket is_waiting (slice_get tickets.now result) ≡ true }
+    ensures found { result < length tickets.now
+        → is_ticket is_waiting (slice_get tickets.now result) ≡ true }
 {
     for place in from..tickets.len() {
         if is_waiting_ticket(tickets[place]) {

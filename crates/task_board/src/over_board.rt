@@ -1,5 +1,5 @@
 //! Helpers over a board.
-ghost use Rattle.std.specs.Prelude.{◌≡◌, ◌≤◌, ◌^◌, ◌+◌, ◌-◌, true, min, IfOk, IfSome, IsSome, MatchOption, Some, None, MatchResult, OnErr};
+ghost use Rattle.std.specs.Prelude.{ℕ, ◌≡◌, ◌≤◌, ◌^◌, ◌+◌, ◌-◌, true, min, IfOk, IfSome, IsSome, MatchOption, Some, None, MatchResult, OnErr};
 ghost use Rattle.std.specs.Arc.{arc_value};
 ghost use Rattle.std.specs.Option.{ForSome};
 ghost use Rattle.task_board.specs.Numbers.{kept_at};
@@ -23,8 +23,8 @@ pub struct Kept<W: Work> {
     ticket: Option<u32>,
 }
 
-/// Helpers that pass tasks on to a board. An outcome is handed on only where the task beside it says what the kept one
-/// says.
+/// Helpers that pass tasks on to a board. An outcome is handed on only where the task beside it says what the
+/// kept one says.
 #[derive(Drop)]
 pub struct OverBoard<'a, W: Work, L: Ledger, R: Wait> {
     rt: &'a R,
@@ -45,7 +45,12 @@ impl<'a, W: Work, L: Ledger, R: Wait> OverBoard<'a, W, L, R> {
         board: &'a Board<W, L>,
         work: &'a W,
         seat: Seat<L>,
-    ) -> OverBoard<'a, W, L, R> {
+    ) -> OverBoard<'a, W, L, R>
+        ensures misses { ⟦<OverBoard<'a, W, L, R> as Helpers<W>>⟧.misses result ≡ 0 }
+        ensures returns { ⟦<OverBoard<'a, W, L, R> as Helpers<W>>⟧.returns result ≡ 0 }
+        ensures given { ⟦<OverBoard<'a, W, L, R> as Helpers<W>>⟧.given result ≡ 0 }
+        ensures held { (n : ℕ) → ⟦<OverBoard<'a, W, L, R> as Helpers<W>>⟧.held result n ≡ None }
+    {
         OverBoard {
             rt,
             alloc,
@@ -65,12 +70,16 @@ impl<'a, W: Work, L: Ledger, R: Wait> OverBoard<'a, W, L, R> {
     }
 
     /// How often no outcome was there.
-    pub fn misses(&self) -> u64 {
+    pub fn misses(&self) -> u64
+        ensures { result ≡ ⟦<OverBoard<'a, W, L, R> as Helpers<W>>⟧.misses self.now }
+    {
         self.misses
     }
 
     /// How often a task came back.
-    pub fn returns(&self) -> u64 {
+    pub fn returns(&self) -> u64
+        ensures { result ≡ ⟦<OverBoard<'a, W, L, R> as Helpers<W>>⟧.returns self.now }
+    {
         self.returns
     }
 }

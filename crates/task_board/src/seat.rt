@@ -7,7 +7,7 @@ use crate::history::History;
 use std::marker::Model;
 use std::sync::ledger::{Book, Ledger, Share};
 
-/// One of a board's seats, with its part of the book of calls. Contracts see its number, its count and its end.
+/// One of a board's seats, with its part of the book of calls. Contracts see its number, count and end.
 #[derive(Drop)]
 pub struct Seat<L: Ledger> {
     number: u32,

@@ -23,7 +23,8 @@ impl<T: Drop> Shelf<T> {
     /// Keeps a value under the next number.
     pub fn put(&mut self, value: T) -> Result<u32, AllocError>
         requires { vec_len self.old.places < 4294967295 }
-        ensures number { IfOk result (λ n. (n ≡ vec_len self.new.places) × (vec_len self.new.places ≡ vec_len self.old.places + 1)) }
+        ensures number { IfOk result (λ n. (n ≡ vec_len self.new.places)
+            × (vec_len self.new.places ≡ vec_len self.old.places + 1)) }
         ensures fresh { IfOk result (λ n. kept_at self.old.places.items n ≡ None) }
         ensures kept { IfOk result (λ n. kept_at self.new.places.items n ≡ Some value) }
         ensures others { IfOk result (λ n. (k : ℕ) → k ≢ n
@@ -51,7 +52,8 @@ impl<T: Drop> Shelf<T> {
     pub fn remove(&mut self, number: u32) -> Option<T>
         ensures value { result ≡ kept_at self.old.places.items number }
         ensures gone { kept_at self.new.places.items number ≡ None }
-        ensures others { (k : ℕ) → k ≢ number → kept_at self.new.places.items k ≡ kept_at self.old.places.items k }
+        ensures others { (k : ℕ) → k ≢ number
+            → kept_at self.new.places.items k ≡ kept_at self.old.places.items k }
         ensures number { vec_len self.new.places ≡ vec_len self.old.places }
     {
         match number.checked_sub(1) {

@@ -17,7 +17,7 @@ use std::mem;
 use std::sync::Arc;
 use std::sync::ledger::{Book, Ledger, Share};
 
-/// A legal history, with what stands beside each ticket, each outcome right for its task, and the book of calls.
+/// A legal history, what stands beside each ticket, each outcome right for its task, and the book of calls.
 #[derive(Drop)]
 pub struct BoardState<W: Work, L: Ledger> {
     history: History,
@@ -98,9 +98,11 @@ impl<W: Work, L: Ledger> BoardState<W, L> {
     /// Takes a task that is waiting. `None` where the board is closed.
     pub fn take(&mut self, seat: &mut Seat<L>) -> Result<Option<(u32, Arc<W::Task>)>, Waits>
         ensures history { IsTake (λ p. p.0) (events_of self.old) seat.old.number result (events_of self.new) }
-        ensures task { IfOk result (λ o. IfSome o (λ p. at_number (contents_of self.old) p.0 ≡ Some (Content.Task p.1))) }
+        ensures task { IfOk result (λ o. IfSome o (λ p.
+            at_number (contents_of self.old) p.0 ≡ Some (Content.Task p.1))) }
         ensures contents { contents_of self.new ≡ taken_out (λ p. p.0) result (contents_of self.old) }
-        ensures seat { seat.new ≡ seat_taken result (seat_after seat.old (events_of self.old) (events_of self.new)) }
+        ensures seat { seat.new
+            ≡ seat_taken result (seat_after seat.old (events_of self.old) (events_of self.new)) }
     {
         let before = self.history.count();
         let taken = self.history.take(seat.number())?;
@@ -127,7 +129,8 @@ impl<W: Work, L: Ledger> BoardState<W, L> {
     ) -> bool
         requires { W.right (W.stands (arc_value task)) outcome }
         ensures value { result ≡ is_next_step (replay_of (events_of self.old)) seat.old.number (Post ticket) }
-        ensures history { events_of self.new ≡ added (events_of self.old) (event seat.old.number (Post ticket)) }
+        ensures history { events_of self.new
+            ≡ added (events_of self.old) (event seat.old.number (Post ticket)) }
         ensures posted { OnTrue result ((a : _)
             × (contents_of self.new ≡ put_at (contents_of self.old) ticket (Content.Answer a))
             × (a.task ≡ task) × (a.outcome ≡ outcome)) }
@@ -146,8 +149,10 @@ impl<W: Work, L: Ledger> BoardState<W, L> {
 
     /// Leaves a ticket that the seat has taken for its owner.
     pub fn give_back(&mut self, seat: &mut Seat<L>, ticket: u32) -> bool
-        ensures value { result ≡ is_next_step (replay_of (events_of self.old)) seat.old.number (GiveBack ticket) }
-        ensures history { events_of self.new ≡ added (events_of self.old) (event seat.old.number (GiveBack ticket)) }
+        ensures value { result
+            ≡ is_next_step (replay_of (events_of self.old)) seat.old.number (GiveBack ticket) }
+        ensures history { events_of self.new
+            ≡ added (events_of self.old) (event seat.old.number (GiveBack ticket)) }
         ensures contents { contents_of self.new ≡ contents_of self.old }
         ensures seat { seat.new ≡ seat_after seat.old (events_of self.old) (events_of self.new) }
     {
@@ -164,14 +169,16 @@ impl<W: Work, L: Ledger> BoardState<W, L> {
         ticket: u32,
     ) -> Result<Option<(Arc<W::Task>, W::Outcome)>, AllocError>
         ensures history { IfOk result (λ o.
-            Adds (events_of self.old) (event seat.old.number (Fetch ticket (is_some o))) (events_of self.new)) }
+            Adds (events_of self.old) (event seat.old.number (Fetch ticket (is_some o)))
+            (events_of self.new)) }
         ensures handed { IfOk result (λ o. IfSome o (λ p. (a : _)
             × (at_number (contents_of self.old) ticket ≡ Some (Content.Answer a))
             × (a.task ≡ p.0) × (a.outcome ≡ p.1))) }
         ensures right { IfOk result (λ o. IfSome o (λ p. ∥ W.right (W.stands (arc_value p.0)) p.1 ∥₁)) }
         ensures contents { IfOk result (λ o. contents_of self.new ≡ without o ticket (contents_of self.old)) }
         ensures seat { seat.new ≡ seat_after seat.old (events_of self.old) (events_of self.new) }
-        ensures err { OnErr result ((events_of self.new ≡ events_of self.old) × (contents_of self.new ≡ contents_of self.old)) }
+        ensures err { OnErr result ((events_of self.new ≡ events_of self.old)
+            × (contents_of self.new ≡ contents_of self.old)) }
     {
         let before = self.history.count();
         let found = self.history.fetch(seat.number(), ticket)?;
@@ -183,7 +190,7 @@ impl<W: Work, L: Ledger> BoardState<W, L> {
         Ok(Some(answer_of(content)))
     }
 
-    /// Takes a ticket out that the seat put, so that no other takes it any more. Its outcome where it has come.
+    /// Takes a ticket out that the seat put, so that no other takes it any more. Its outcome, where it came.
     pub fn obtain(
         &mut self,
         seat: &mut Seat<L>,

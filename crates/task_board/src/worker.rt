@@ -9,8 +9,8 @@ use std::alloc::Global;
 use std::sync::Wait;
 use std::sync::ledger::Ledger;
 
-/// Takes, performs and posts tasks until the board is closed. A task for which there is no memory is given back. The
-/// gate is passed, and the task performed, while no lock is held.
+/// Takes, performs and posts tasks until the board is closed. A task for which there is no memory is given back.
+/// The gate is passed, and the task performed, while no lock is held.
 pub fn serve<W: Work + Sync, L: Ledger, G: Gate + Sync, R: Wait>(
     rt: &R,
     alloc: Global,
