@@ -1,0 +1,233 @@
+ghost use Rattle.std.specs.Prelude.{◌≡◌, ◌<◌, ◌≤◌, ◌↔◌, ℕ, length, IfOk, IsTrue, IsSome, IsNone, Option, None, Some, option_map, MatchOption};
+ghost use Rattle.std.specs.Arc.{arc_value};
+ghost use Rattle.worker_split.specs.Job.{done_before};
+
+use crate::answers::{JobAnswer, Kept, Taken};
+use crate::outcome::Outcome;
+use crate::piece::{LastTask, Piece, PieceEnd};
+use crate::splitting::pieces;
+use crate::task::Task;
+use search_cursor::Position;
+use sign_rules::Rules;
+use std::alloc::{AllocError, Global};
+use std::marker::Model;
+use std::sync::Arc;
+
+/// A search for the orders of a version's rules, in pieces that workers search.
+#[derive(Drop)]
+pub struct JobState {
+    job: u32,
+    version: u32,
+    rules: Arc<Rules>,
+    pieces: Vec<Piece>,
+    ask: Option<u64>,
+}
+
+impl Model for JobState {
+    ghost use Rattle.std.specs.Arc.{arc_value};
+    ghost use Rattle.worker_split.specs.Job.{JobView};
+    ghost use Rattle.worker_split.specs.Invariant.{IsJob};
+
+    ghost Value = { JobView };
+
+    ghost view = { λ j. record { job = j.job; version = j.version; rules = arc_value j.rules; pieces = j.pieces.items; ask = j.ask } };
+
+    ghost invariant = { λ j. IsJob (arc_value j.rules) j.pieces.items };
+}
+
+impl JobState {
+    ghost use Rattle.worker_split.specs.Tasks.{task_of, IsRightOutcome};
+    ghost use Rattle.worker_split.specs.Job.{opened, asked, task_at, task_with, piece_at, Matches, NamesTask, IsTaken, kept_of, next_answer, after_answer, needed};
+    ghost use Rattle.worker_split.specs.declared.piece.Piece.{Piece};
+
+    /// A job of which nothing was asked yet.
+    pub fn open(
+        alloc: Global,
+        job: u32,
+        version: u32,
+        rules: Arc<Rules>,
+        most: u32,
+    ) -> Result<JobState, AllocError>
+        requires { most ≡ 1 }
+        ensures { IfOk result (λ j. j ≡ opened job version (arc_value rules) most) }
+    {
+        let prefixes = pieces(alloc, &rules, most)?;
+        let mut pieces = Vec::with_capacity(alloc, prefixes.len())?;
+        for prefix in prefixes.iter() {
+            pieces.push(Piece::new(prefix)?)?;
+        }
+        Ok(JobState {
+            job,
+            version,
+            rules,
+            pieces,
+            ask: None,
+        })
+    }
+
+    /// Opens an ask, where none is open: each open piece has a new task then.
+    pub fn ask(&mut self, budget: u64) -> bool
+        requires { 1 ≤ budget }
+        ensures opens { IsTrue result ↔ IsNone self.old.ask }
+        ensures state { self.new ≡ asked self.old budget }
+    {
+        if self.ask.is_some() {
+            return false;
+        }
+        for piece in self.pieces.iter_mut() {
+            piece.ask(budget);
+        }
+        self.ask = Some(budget);
+        true
+    }
+
+    /// Whether an ask is open.
+    pub fn asked(&self) -> bool
+        ensures { IsTrue result ↔ IsSome self.now.ask }
+    {
+        self.ask.is_some()
+    }
+
+    /// What a piece, counted from 1, has still to answer in the open ask.
+    pub fn task(&self, piece: u32) -> Result<Option<Task>, AllocError>
+        ensures { IfOk result (λ task. option_map task_of task ≡ task_at self.now piece) }
+    {
+        if self.ask.is_none() {
+            return Ok(None);
+        }
+        let Some(kept) = self.piece(piece) else {
+            return Ok(None);
+        };
+        match (&kept.end, kept.last) {
+            (PieceEnd::Open, LastTask::Asked { budget }) => Ok(Some(Task {
+                job: self.job,
+                version: self.version,
+                piece,
+                rules: Arc::try_clone(&self.rules)?,
+                prefix: kept.prefix.copy()?,
+                position: kept.kept.copy()?,
+                budget,
+            })),
+            _ => Ok(None),
+        }
+    }
+
+    /// Takes an outcome that answers the last task of its piece. Any other changes nothing, and comes back.
+    pub fn accept(&mut self, outcome: Outcome) -> Taken
+        requires { (p : Piece) → piece_at self.old outcome.piece ≡ Some p → NamesTask self.old p outcome
+            → IsRightOutcome (task_with self.old outcome.piece p outcome.budget) outcome }
+        ensures { IsTaken self.old outcome result self.new }
+    {
+        if !self.matches(&outcome) {
+            return Taken::Stranger {
+                kept: self.kept(outcome.piece),
+                came: outcome,
+            };
+        }
+        let piece = &mut self.pieces[outcome.piece as usize - 1];
+        piece.accept(outcome.budget, outcome.end);
+        Taken::Accepted
+    }
+
+    /// What the open ask came to, by the first piece that is not done. Each answer but NotReady closes the ask.
+    pub fn answer(&mut self) -> JobAnswer
+        requires { IsSome self.old.ask }
+        ensures answer { result ≡ next_answer self.old }
+        ensures state { self.new ≡ after_answer self.old result }
+    {
+        let first = done_before(&self.pieces);
+        if first >= self.pieces.len() {
+            self.ask = None;
+            return JobAnswer::NoMore;
+        }
+        let piece = &mut self.pieces[first];
+        match piece.answer(first as u32 + 1) {
+            JobAnswer::NotReady(number) => JobAnswer::NotReady(number),
+            answer => {
+                self.ask = None;
+                answer
+            }
+        }
+    }
+
+    /// The piece whose outcome an open ask waits for.
+    pub fn needs(&self) -> Option<u32>
+        ensures { result ≡ needed self.now }
+    {
+        if self.ask.is_none() {
+            return None;
+        }
+        let first = done_before(&self.pieces);
+        match self.pieces.get(first) {
+            Some(piece) if piece.is_waiting() => Some(first as u32 + 1),
+            _ => None,
+        }
+    }
+
+    /// What the job knows of a piece and its last task.
+    pub fn kept(&self, piece: u32) -> Kept
+        ensures { result ≡ kept_of self.now piece }
+    {
+        let pieces = self.pieces.len() as u32;
+        let (piece, last) = match self.piece(piece) {
+            Some(known) => (piece, known.last),
+            None => (0, LastTask::Never),
+        };
+        let (budget, answered) = match last {
+            LastTask::Never => (0, false),
+            LastTask::Asked { budget } => (budget, false),
+            LastTask::Answered { budget } => (budget, true),
+        };
+        Kept {
+            job: self.job,
+            version: self.version,
+            piece,
+            pieces,
+            budget,
+            answered,
+        }
+    }
+
+    /// The position from which a piece goes on.
+    pub fn kept_position(&self, piece: u32) -> Option<&Position>
+        ensures { MatchOption result (piece_at self.now piece ≡ None) (λ position. option_map (λ (p : Piece). p.kept) (piece_at self.now piece) ≡ Some position.now) }
+    {
+        match self.piece(piece) {
+            Some(known) => Some(&known.kept),
+            None => None,
+        }
+    }
+
+    fn piece(&self, piece: u32) -> Option<&Piece>
+        ensures { MatchOption result (piece_at self.now piece ≡ None) (λ p. piece_at self.now piece ≡ Some p.now) }
+    {
+        if piece == 0 {
+            return None;
+        }
+        self.pieces.get(piece as usize - 1)
+    }
+
+    /// Whether the outcome names the last task of its piece, and that is not answered.
+    fn matches(&self, outcome: &Outcome) -> bool
+        ensures { IsTrue result ↔ Matches self.now outcome.now }
+    {
+        match self.piece(outcome.piece) {
+            Some(known) => outcome.job == self.job
+                && outcome.version == self.version
+                && known.is_answered_by(outcome),
+            None => false,
+        }
+    }
+}
+
+/// How many pieces stand before the first that is not done.
+fn done_before(pieces: &[Piece]) -> usize
+    ensures { result ≡ done_before pieces.now }
+{
+    for (place, piece) in pieces.iter().enumerate() {
+        if !piece.is_done() {
+            return place;
+        }
+    }
+    pieces.len()
+}
