@@ -4,11 +4,12 @@ use Rattle.surd_number.specs.declared.Surd.{Surd}
 use Rattle.surd_number.specs.Value.{number_of}
 use Rattle.plane_geometry.specs.declared.Point.{Point}
 use Rattle.plane_geometry.specs.declared.Segment.{Segment}
+use Rattle.plane_geometry.specs.Polygon.{Side, sides_of}
 use Rattle.crease_model.specs.declared.Kind.{Kind}
 use Rattle.crease_model.specs.declared.Kind.TheVariants.{Edge, Mountain, Valley, Aux}
 use Rattle.crease_model.specs.declared.Piece.{Piece}
 use Rattle.crease_model.specs.View.{PatternView}
-use Rattle.crease_model.specs.OwnLines.{PlainLine, segment_line, piece_line, auxiliary_line}
+use Rattle.crease_model.specs.OwnLines.{PlainLine, side_line, segment_line, piece_line, auxiliary_line}
 use Rattle.cp_text.specs.declared.line.CpLine.{CpLine}
 use Rattle.cp_text.specs.NumberText.{number_text}
 
@@ -37,24 +38,12 @@ line_text line = line_body line ++ 10 ∷ []
 abbrev pub line_between : Kind → Point → Point → CpLine
 line_between kind from to = record { kind = kind; from = from; to = to }
 
--- each corner with the next, and the last with the first
-abbrev pub side_lines_from : Point → List Point → List CpLine
-side_lines_from first [] = []
-side_lines_from first (p ∷ []) = line_between Edge p first ∷ []
-side_lines_from first (p ∷ q ∷ ps) = line_between Edge p q ∷ side_lines_from first (q ∷ ps)
-
--- the sides from these last corners of a sheet on
-abbrev pub rest_sides : List Point → List Point → List CpLine
-rest_sides [] last = []
-rest_sides (first ∷ ps) last = side_lines_from first last
-
--- the sides of a sheet, counterclockwise from its least corner
-abbrev pub side_lines : List Point → List CpLine
-side_lines corners = rest_sides corners corners
-
 -- a line of a pattern as a crease line
 abbrev pub crease_line : PlainLine → CpLine
 crease_line line = line_between line.kind line.from line.to
+
+abbrev pub line_of_side : Side → CpLine
+line_of_side side = crease_line (side_line side)
 
 abbrev pub line_of_segment : Kind → Segment → CpLine
 line_of_segment kind s = crease_line (segment_line kind s)
@@ -67,7 +56,7 @@ line_of_auxiliary s = crease_line (auxiliary_line s)
 
 -- the sides of the sheet, the pieces and the auxiliary lines, each in order
 abbrev pub pattern_lines : PatternView → List CpLine
-pattern_lines p = side_lines p.corners ++ map line_of_piece p.pieces ++ map line_of_auxiliary p.aux
+pattern_lines p = map line_of_side (sides_of p.corners) ++ map line_of_piece p.pieces ++ map line_of_auxiliary p.aux
 
 abbrev pub lines_text : List CpLine → List ℕ
 lines_text lines = flat_map line_text lines

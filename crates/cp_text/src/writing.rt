@@ -1,15 +1,16 @@
 //! Crease lines and patterns written as text.
 
-ghost use Rattle.std.specs.Prelude.{◌≡◌, ◌+◌, ◌<◌, ◌++◌, ◌∷◌, OnOk, OnErr, map, length, drop, slice_index_or};
+ghost use Rattle.std.specs.Prelude.{◌≡◌, ◌++◌, ◌∷◌, OnOk, OnErr, map};
 ghost use Rattle.surd_number.specs.Value.{number_of};
-ghost use Rattle.cp_text.specs.LineText.{kind_digit, coordinate_text, point_text, line_body, line_text, line_between, side_lines, rest_sides, line_of_segment, line_of_piece, line_of_auxiliary, lines_text, pattern_lines, pattern_text};
+ghost use Rattle.plane_geometry.specs.Polygon.{sides_of};
+ghost use Rattle.cp_text.specs.LineText.{kind_digit, coordinate_text, point_text, line_body, line_text, line_of_side, line_of_segment, line_of_piece, line_of_auxiliary, lines_text, pattern_lines, pattern_text};
 ghost use Rattle.cp_text.specs.Growth.{KeepsFront};
 
 use crate::appending::all_or_nothing;
 use crate::line::CpLine;
 use crate::number_writing::put_number;
 use crease_model::{Kind, Pattern, Piece};
-use plane_geometry::{Point, Segment};
+use plane_geometry::{Point, Segment, next_corner};
 use std::alloc::AllocError;
 use surd_number::Surd;
 
@@ -74,29 +75,16 @@ pub fn write_line(out: &mut Vec<u8>, line: &CpLine) -> Result<(), AllocError>
     all_or_nothing(out, before, written)
 }
 
-// The corner after corner i, which for the last is the first.
-fn next_corner(corners: &[Point], i: usize) -> Point
-    requires { i < length corners.now }
-    ensures { rest_sides corners.now (drop i corners.now)
-        ≡ line_between Kind.Edge (slice_index_or corners.now i result) result ∷ rest_sides corners.now (drop (i + 1) corners.now) }
-{
-    if i + 1 < corners.len() {
-        corners[i + 1]
-    } else {
-        corners[0]
-    }
-}
-
 #[tactic(auto, using(crate::proofs::Fronts::fronts))]
 fn put_sides(out: &mut Vec<u8>, corners: &[Point]) -> Result<(), AllocError>
-    ensures ok { OnOk result (out.new.items ≡ out.old.items ++ lines_text (side_lines corners.now)) }
+    ensures ok { OnOk result (out.new.items ≡ out.old.items ++ lines_text (map line_of_side (sides_of corners.now))) }
     ensures err { OnErr result (KeepsFront out.old.items out.new.items) }
 {
     for (i, from) in corners.iter().enumerate() {
         let side = CpLine {
             kind: Kind::Edge,
             from: *from,
-            to: next_corner(corners, i),
+            to: *next_corner(corners, i),
         };
         put_line(out, &side)?;
     }

@@ -3,7 +3,7 @@ use Rattle.std.proofs.Common.{◌≡◌, ℕ, zero, suc, ◌-◌, ◌<◌, List,
 use Rattle.std.specs.Prelude.{slice_get}
 use Rattle.std.proofs.lemmas.List.{length-map}
 use Rattle.plane_geometry.specs.declared.Point.{Point}
-use Rattle.crease_model.specs.Sheet.{side_direction, sides_from}
+use Rattle.plane_geometry.specs.Polygon.{side_direction, sides_from}
 use Rattle.crease_model.specs.NewSheet.{Bend, bends_from, last_direction, side_directions}
 use Rattle.crease_model.specs.Laws.{bend_at, BendsAreNeighbours}
 

@@ -3,7 +3,7 @@ use Rattle.std.proofs.Common.{◌≡◌, ℕ, ◌-◌, ◌<◌, List, [], ◌∷
 use Rattle.plane_geometry.specs.declared.Point.{Point}
 use Rattle.plane_geometry.specs.Position.{position_of}
 use Rattle.plane_geometry.specs.Direction.{direction_of}
-use Rattle.crease_model.specs.Sheet.{side_direction, sides_from}
+use Rattle.plane_geometry.specs.Polygon.{side_direction, sides_from}
 use Rattle.crease_model.specs.NewSheet.{last_direction, side_directions}
 
 last_from : (f p d : Point) (ps : List Point) (o : Option ℕ) → last_direction o (map side_direction (sides_from f (p ∷ ps))) ≡ direction_of (position_of (get_or (p ∷ ps) (length ps) d)) (position_of f)

@@ -1,5 +1,4 @@
 pub mod Square
-pub mod SideLists
 pub mod LeastCorners
 pub mod LastSides
 pub mod Rotations

@@ -10,7 +10,8 @@ use Rattle.std.proofs.lemmas.List.Folds.{list_all-append, list_all-map}
 use Rattle.std.proofs.lemmas.List.Sums.{sum_by-append, sum_by-cons, position_or_len_is}
 use Rattle.plane_geometry.specs.declared.Point.{Point}
 use Rattle.plane_geometry.specs.Position.{position_of, compare_positions}
-use Rattle.crease_model.specs.Sheet.{Side, sides_of, side_direction, side_number, turn_of, turns_from, turns_of, is_left_turn, directions_of, is_least, is_least_first, is_sheet}
+use Rattle.plane_geometry.specs.Polygon.{Side, sides_of, side_direction, side_number, turn_of, turns_from, turns_of, directions_of}
+use Rattle.crease_model.specs.Sheet.{is_left_turn, is_least, is_least_first, is_sheet}
 use Rattle.crease_model.specs.NewSheet.{bends_from, last_direction, side_directions, is_bad_turn, turn_between, bend_turn, first_bad, turn_fault, sheet_fault, least_place, from_least, unless_fault, sheet_of}
 use Rattle.crease_model.proofs.LeastCorners.{least_is_first}
 use Rattle.crease_model.proofs.Rotations.{IsTurnable, turned_sides, turned_directions}

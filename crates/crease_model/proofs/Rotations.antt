@@ -1,7 +1,7 @@
 -- A polygon that begins at another corner has the same sides, directions and turns, in turned order.
 use Rattle.std.proofs.Common.{◌≡◌, ℕ, List, [], ◌∷◌, ◌++◌, map, refl, sym, ap, ◌∙◌}
 use Rattle.std.proofs.lemmas.List.{append-nil, map-append}
-use Rattle.crease_model.specs.Sheet.{Side, sides_from, sides_of, turn_of, turns_from, turns_of, side_number, directions_of}
+use Rattle.plane_geometry.specs.Polygon.{Side, sides_from, sides_of, turn_of, turns_from, turns_of, side_number, directions_of}
 
 -- what is the same of two parts in either order
 abbrev pub IsTurnable : {A X : Type 0} → (List A → X) → Type 0

@@ -1,3 +1,5 @@
+pub mod Kind
+pub mod KindLaws
 pub mod Sheet
 pub mod View
 pub mod Rules

@@ -6,7 +6,8 @@ use Rattle.std.specs.declared.result.Result.{Result}
 use Rattle.plane_geometry.specs.declared.Point.{Point}
 use Rattle.crease_model.specs.declared.SheetFault.{SheetFault}
 use Rattle.crease_model.specs.declared.SheetFault.TheVariants.{BadSheet, Memory}
-use Rattle.crease_model.specs.Sheet.{sides_of, side_direction, turn_of, is_left_turn, is_least}
+use Rattle.plane_geometry.specs.Polygon.{sides_of, side_direction, turn_of}
+use Rattle.crease_model.specs.Sheet.{is_left_turn, is_least}
 
 -- the directions, where there are any, of the side that ends at a corner and of the side that begins there
 pub record Bend : Type 0 where

@@ -6,7 +6,7 @@ use Rattle.plane_geometry.specs.SegmentView.{lesser_end, greater_end}
 use Rattle.crease_model.specs.declared.Kind.{Kind}
 use Rattle.crease_model.specs.declared.Kind.TheVariants.{Edge, Aux}
 use Rattle.crease_model.specs.declared.Piece.{Piece}
-use Rattle.crease_model.specs.Sheet.{Side, sides_of}
+use Rattle.plane_geometry.specs.Polygon.{Side, sides_of}
 use Rattle.crease_model.specs.View.{PatternView}
 
 -- a line, wherever it stands

@@ -22,7 +22,8 @@ use Rattle.plane_geometry.specs.DirectionLaws.{along_parts}
 use Rattle.plane_geometry.specs.CommonPointLaws.{line_through, side_on_line, turn_turned}
 use Rattle.crease_model.specs.declared.Piece.{Piece}
 use Rattle.crease_model.specs.declared.Place.TheVariants.{Outside, Border, Inside}
-use Rattle.crease_model.specs.Sheet.{Side, sides_from, sides_of, side_direction, side_number, is_left_of, is_right_of, place_of, is_outside, is_on_segment, holds_both_ends, is_within_side, turn_of, turns_from, turns_of, is_left_turn, directions_of, is_sheet}
+use Rattle.plane_geometry.specs.Polygon.{Side, sides_from, sides_of, side_direction, side_number, is_left_of, is_right_of, turn_of, turns_from, turns_of, directions_of}
+use Rattle.crease_model.specs.Sheet.{place_of, is_outside, is_on_segment, holds_both_ends, is_within_side, is_left_turn, is_sheet}
 use Rattle.crease_model.specs.Rules.{is_crease_kind, is_on_sheet, is_crease}
 
 -- ---- points of a stretch

@@ -3,11 +3,10 @@
 ghost use Rattle.std.specs.Prelude.{◌≡◌, ◌<◌, ◌≤◌, length, None, IfOk, IsTrue, IsFalse, MatchOption};
 ghost use Rattle.std.specs.Option.{option_map};
 ghost use Rattle.plane_geometry.specs.DirView.{dir_number};
-ghost use Rattle.crease_model.specs.Sheet.{turn_of};
+ghost use Rattle.plane_geometry.specs.Polygon.{turn_of};
 ghost use Rattle.crease_model.specs.NewSheet.{side_directions, last_direction, is_bad_turn, turn_between, sheet_fault, least_place, from_least};
 
-use crate::sides::next_corner;
-use plane_geometry::{Dir, Point, direction};
+use plane_geometry::{Dir, Point, direction, next_corner};
 use std::alloc::{AllocError, Global};
 
 // The turn from one direction to the next, in steps of 22.5 degrees counterclockwise.

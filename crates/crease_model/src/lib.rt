@@ -30,6 +30,23 @@ pub enum Kind {
     Aux,
 }
 
+impl Kind {
+    ghost use Rattle.crease_model.specs.Kind.{is_same_kind};
+
+    /// Whether both are the same kind.
+    pub fn same(self, other: Kind) -> bool
+        ensures { result ≡ is_same_kind self other }
+    {
+        match (self, other) {
+            (Kind::Edge, Kind::Edge)
+            | (Kind::Mountain, Kind::Mountain)
+            | (Kind::Valley, Kind::Valley)
+            | (Kind::Aux, Kind::Aux) => true,
+            _ => false,
+        }
+    }
+}
+
 /// A straight piece of a crease.
 #[derive(Clone, Copy, Debug, PartialEq, Eq)]
 pub struct Piece {

@@ -1,26 +1,15 @@
 //! Sides of a sheet: where points and segments lie to them.
 
-ghost use Rattle.std.specs.Prelude.{◌≡◌, ◌<◌, length, IsTrue};
+ghost use Rattle.std.specs.Prelude.{◌≡◌};
 ghost use Rattle.plane_geometry.specs.Position.{position_of};
 ghost use Rattle.plane_geometry.specs.SegmentView.{stretch_of};
 ghost use Rattle.plane_geometry.specs.DirView.{dir_number};
-ghost use Rattle.crease_model.specs.Sheet.{side_direction, side_sign, place_of, holds_both_ends, is_within_side, next_corner_of};
+ghost use Rattle.plane_geometry.specs.Polygon.{side_direction, side_sign};
+ghost use Rattle.crease_model.specs.Sheet.{place_of, holds_both_ends, is_within_side};
 
 use crate::Place;
-use plane_geometry::{Dir, Point, Segment, direction, on_segment, side_from};
+use plane_geometry::{Dir, Point, Segment, direction, next_corner, on_segment, side_from};
 use surd_number::Sgn;
-
-/// The corner after the i-th: the next one, or the first after the last.
-pub fn next_corner(corners: &[Point], i: usize) -> &Point
-    requires { i < length corners.now }
-    ensures { result.now ≡ next_corner_of corners.now i result.now }
-{
-    if i + 1 < corners.len() {
-        &corners[i + 1]
-    } else {
-        &corners[0]
-    }
-}
 
 // On which side of the side from one corner to another a point is.
 fn sign_at(start: &Point, end: &Point, p: &Point) -> Sgn

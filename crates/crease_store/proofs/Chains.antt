@@ -14,29 +14,21 @@ use Rattle.crease_model.specs.declared.Kind.{Kind}
 use Rattle.crease_model.specs.declared.Kind.TheVariants.{Edge, Mountain, Valley, Aux}
 use Rattle.crease_model.specs.declared.Piece.{Piece}
 use Rattle.plane_geometry.specs.Order.{is_before}
-use Rattle.crease_store.specs.Merged.{is_same_kind, are_alike, begins_at, arrives_at, single, only_from, only_to, is_loose, next_piece, last_piece, IsJoined, IsChain, last_in_chain}
+use Rattle.crease_model.specs.Kind.{is_same_kind}
+use Rattle.crease_model.specs.KindLaws.{same_kind_is}
+use Rattle.crease_store.specs.Merged.{are_alike, begins_at, arrives_at, single, only_from, only_to, is_loose, next_piece, last_piece, IsJoined, IsChain, last_in_chain}
 use Rattle.line_split.specs.MemberLaws.{Member, member, contained, filter_member, member_filter}
 use Rattle.plane_geometry.specs.OrderLaws.{before_trans, before_irreflexive}
 use Rattle.crease_store.proofs.Ascending.{before_by_from}
 use Rattle.crease_store.proofs.Steps.{last_on, last_stays}
 
--- ---- points and kinds
+-- ---- points
 
 pub same_point : (p q : Point) → is_same_position (position_of p) (position_of q) ≡ true → p ≡ q
 same_point p q e = point_is p q (zero_is _ (sym (same_is (position_of p) (position_of q)) ∙ e))
 
 pub point_self : (p q : Point) → p ≡ q → is_same_position (position_of p) (position_of q) ≡ true
 point_self p q e = subst (λ (t : Point). is_same_position (position_of p) (position_of t) ≡ true) e (same_is (position_of p) (position_of p) ∙ ap is_zero (order_self (position_of p)))
-
-pub same_kind_is : (a b : Kind) → is_same_kind a b ≡ true → a ≡ b
-same_kind_is Edge Edge e = refl
-same_kind_is Edge _ e = absurd (false≢true e)
-same_kind_is Mountain Mountain e = refl
-same_kind_is Mountain _ e = absurd (false≢true e)
-same_kind_is Valley Valley e = refl
-same_kind_is Valley _ e = absurd (false≢true e)
-same_kind_is Aux Aux e = refl
-same_kind_is Aux _ e = absurd (false≢true e)
 
 -- ---- the only piece
 

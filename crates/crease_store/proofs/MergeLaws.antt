@@ -19,7 +19,9 @@ use Rattle.crease_model.specs.declared.Kind.TheVariants.{Edge, Mountain, Valley,
 use Rattle.crease_model.specs.declared.Piece.{Piece}
 use Rattle.crease_model.specs.Rules.{IsPattern, is_ascending, segments_of}
 use Rattle.crease_model.specs.View.{PatternView}
-use Rattle.crease_store.specs.Merged.{is_same_kind, are_alike, begins_at, arrives_at, single, only_from, only_to, is_loose, merge_of, direction_from, IsLoose, IsMerged}
+use Rattle.crease_model.specs.Kind.{is_same_kind}
+use Rattle.crease_model.specs.KindLaws.{same_kind_self}
+use Rattle.crease_store.specs.Merged.{are_alike, begins_at, arrives_at, single, only_from, only_to, is_loose, merge_of, direction_from, IsLoose, IsMerged}
 use Rattle.crease_store.specs.MergedLaws.{LooseIsTwo, MergedIsOne}
 use Rattle.line_split.specs.MemberLaws.{Member, member, contained, filter_member, member_filter}
 use Rattle.crease_store.proofs.Ascending.{one_ascending, filter_ascends}
@@ -126,12 +128,6 @@ loose_words pieces v e =
       opposite = from_greater v p.segment p_at ∙ ap opposite_number ((w.2).direction ∙ sym (from_lesser v q.segment q_at));
       kind = (w.2).kind;
     }
-
-same_kind_self : (k : Kind) → is_same_kind k k ≡ true
-same_kind_self Edge = refl
-same_kind_self Mountain = refl
-same_kind_self Valley = refl
-same_kind_self Aux = refl
 
 -- the one piece of an ascending list that passes a test
 single_from : (test : Piece → Bool) (pieces : List Piece) (p : Piece) → is_ascending (segments_of pieces) ≡ true → Member pieces p → test p ≡ true → ((z : Piece) → Member pieces z → test z ≡ true → z ≡ p) → single (filter test pieces) ≡ Some p

@@ -13,7 +13,8 @@ use Rattle.plane_geometry.specs.SegmentLaws.{point_is, segment_is, segment_of-en
 use Rattle.plane_geometry.specs.SideLaws.{order_of}
 use Rattle.plane_geometry.specs.StretchLaws.{order_from, turned_zero, end_parts, end_from, end_to}
 use Rattle.crease_model.specs.declared.Piece.{Piece}
-use Rattle.crease_model.specs.Sheet.{Side, place_of, is_outside, is_on_segment, holds_both_ends, is_within_side, sides_of}
+use Rattle.plane_geometry.specs.Polygon.{Side, sides_of}
+use Rattle.crease_model.specs.Sheet.{place_of, is_outside, is_on_segment, holds_both_ends, is_within_side}
 use Rattle.crease_model.specs.Rules.{AllMeetAtEnds, is_crease, is_crease_kind, is_on_sheet}
 use Rattle.crease_store.specs.Merged.{is_loose, last_piece, joined_to, merged_from, IsJoined, IsChain, last_in_chain}
 use Rattle.line_split.specs.MemberLaws.{Member, member, any_member, member_any}

@@ -25,7 +25,8 @@ use Rattle.crease_model.specs.declared.Kind.{Kind}
 use Rattle.crease_model.specs.declared.Kind.TheVariants.{Edge, Mountain, Valley, Aux}
 use Rattle.crease_model.specs.declared.Piece.{Piece}
 use Rattle.crease_model.specs.PartLaws.{direction_is_along, sheet_turns}
-use Rattle.crease_model.specs.Sheet.{Side, sides_of, side_direction, is_on_segment, holds_both_ends, is_within_side, is_sheet}
+use Rattle.plane_geometry.specs.Polygon.{Side, sides_of, side_direction}
+use Rattle.crease_model.specs.Sheet.{is_on_segment, holds_both_ends, is_within_side, is_sheet}
 use Rattle.crease_model.specs.View.{PatternView, empty_on}
 use Rattle.crease_model.specs.Rules.{IsPattern, AllMeetAtEnds, is_crease, is_crease_kind, is_on_sheet, is_ascending, size_of, most_pieces}
 use Rattle.plane_geometry.specs.Order.{is_before}

@@ -7,19 +7,11 @@ use Rattle.plane_geometry.specs.DirectionLaws.{opposite_number}
 use Rattle.plane_geometry.specs.Stretch.{is_end}
 use Rattle.plane_geometry.specs.SegmentOf.{segment_of}
 use Rattle.plane_geometry.specs.SegmentView.{stretch_of, lesser_end, greater_end, direction_number}
-use Rattle.crease_model.specs.declared.Kind.{Kind}
-use Rattle.crease_model.specs.declared.Kind.TheVariants.{Edge, Mountain, Valley, Aux}
+use Rattle.crease_model.specs.Kind.{is_same_kind}
 use Rattle.crease_model.specs.declared.Piece.{Piece}
 use Rattle.crease_model.specs.Rules.{is_ascending, segments_of}
 use Rattle.crease_model.specs.View.{PatternView}
 use Rattle.crease_store.specs.InOrder.{segment_at, with_in_order}
-
-abbrev pub is_same_kind : Kind → Kind → Bool
-is_same_kind Edge Edge = true
-is_same_kind Mountain Mountain = true
-is_same_kind Valley Valley = true
-is_same_kind Aux Aux = true
-is_same_kind _ _ = false
 
 abbrev pub begins_at : Point → Piece → Bool
 begins_at v p = is_same_position (position_of (lesser_end p.segment)) (position_of v)

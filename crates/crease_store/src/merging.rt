@@ -4,7 +4,7 @@ ghost use Rattle.std.specs.Prelude.{◌≡◌, ◌&&◌, Ok, Contains, IfOk, IsT
 ghost use Rattle.plane_geometry.specs.declared.Point.{Point};
 ghost use Rattle.plane_geometry.specs.SegmentView.{stretch_of};
 ghost use Rattle.crease_model.specs.declared.Piece.{Piece};
-ghost use Rattle.crease_store.specs.Merged.{is_same_kind, begins_at, arrives_at, only_from, only_to, is_alike, are_alike, is_loose, next_piece, last_piece, joined_to, merged_from, merged_among, merge_of, IsMerged};
+ghost use Rattle.crease_store.specs.Merged.{begins_at, arrives_at, only_from, only_to, is_alike, are_alike, is_loose, next_piece, last_piece, joined_to, merged_from, merged_among, merge_of, IsMerged};
 ghost use Rattle.crease_model.specs.Rules.{IsPattern, is_ascending, segments_of};
 ghost use Rattle.crease_store.specs.Rising.{beginning_of, arrival_of, is_sorted_by, first_passes, first_alone, AreSorted};
 ghost use Rattle.crease_store.specs.Added.{covers};
@@ -12,21 +12,9 @@ ghost use Rattle.crease_store.specs.Answer.{IsAnswer};
 
 use crate::faults::StoreFault;
 use crate::placing::place_piece;
-use crease_model::{Kind, Pattern, Piece};
+use crease_model::{Pattern, Piece};
 use plane_geometry::{Point, Segment};
 use std::alloc::{AllocError, Global};
-
-fn same_kind(one: Kind, other: Kind) -> bool
-    ensures { result ≡ is_same_kind one other }
-{
-    match (one, other) {
-        (Kind::Edge, Kind::Edge)
-        | (Kind::Mountain, Kind::Mountain)
-        | (Kind::Valley, Kind::Valley)
-        | (Kind::Aux, Kind::Aux) => true,
-        _ => false,
-    }
-}
 
 fn begins_at(v: &Point, piece: &Piece) -> bool
     ensures { result ≡ begins_at v.now piece.now }
@@ -110,7 +98,7 @@ fn only_to(pieces: &[Piece], v: &Point) -> Option<Piece>
 fn alike(one: &Piece, other: &Piece) -> bool
     ensures { result ≡ is_alike one.now other.now }
 {
-    same_kind(one.kind, other.kind) && one.segment.dir().number() == other.segment.dir().number()
+    one.kind.same(other.kind) && one.segment.dir().number() == other.segment.dir().number()
 }
 
 fn both_alike(one: Option<Piece>, other: Option<Piece>) -> bool

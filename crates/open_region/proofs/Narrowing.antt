@@ -1,24 +1,21 @@
 -- A region with one line replaced by a tighter one, and polygons as the sides that narrow a region.
 use Rattle.std.proofs.Common.{◌≡◌, ◌≢◌, ◌↔◌, ℕ, ◌+◌, ◌%◌, ◌<◌, ◌≤◌, Bool, true, false, Option, Some, None, IfSome, MatchOption, List, length, set, get_or, inl, inr, refl, sym, ap, subst, ◌∙◌, arith}
 use Rattle.std.specs.Bool.{IsTrue}
-use Rattle.std.specs.Option.{option_map, is_some}
-use Rattle.std.specs.List.{slice_get}
-use Rattle.std.proofs.lemmas.Bool.{false≢true, cases_eq}
+use Rattle.std.specs.Prelude.{◌&&◌, unwrap_or}
+use Rattle.std.specs.Option.{option_map}
+use Rattle.std.proofs.lemmas.Bool.{false≢true, cases_eq, and_parts, and_from}
 use Rattle.std.proofs.lemmas.List.{get_or-set_same, get_or-set_other}
-use Rattle.std.proofs.lemmas.Option.{slice_get_read, slice_get_within}
-use Rattle.surd_number.specs.declared.Sgn.TheVariants.{Pos}
+use Rattle.surd_number.specs.declared.Sgn.{Sgn}
+use Rattle.surd_number.specs.declared.Sgn.TheVariants.{Neg, Zero, Pos}
 use Rattle.surd_number.specs.Number.{Number, IsLess}
 use Rattle.surd_number.specs.SignLaws.{IsLess-trans, not_less-IsLess_trans}
-use Rattle.plane_geometry.specs.declared.Point.{Point}
-use Rattle.plane_geometry.specs.declared.Dir.{Dir}
-use Rattle.plane_geometry.specs.DirView.{dir_number}
 use Rattle.plane_geometry.specs.Position.{Position, position_of, cross_of}
-use Rattle.plane_geometry.specs.Direction.{direction_vector, direction_of, side_of}
+use Rattle.plane_geometry.specs.Direction.{direction_vector, side_of, is_positive}
+use Rattle.plane_geometry.specs.Polygon.{Side, side_direction, is_left_of}
 use Rattle.open_region.specs.declared.Region.{Region}
 use Rattle.open_region.specs.declared.edge.Edge.{Edge}
 use Rattle.open_region.specs.EdgeView.{line_offset_of}
 use Rattle.open_region.specs.Region.{edge_at, turned_offset, IsBeyond, IsInRegion}
-use Rattle.open_region.specs.Polygon.{IsSideAt, IsLeftOfSide, IsInPolygon}
 
 -- left of the line of an edge in direction n, if there is one
 abbrev IsLeftOfEdge : Position → ℕ → Option Edge → Type 0
@@ -78,37 +75,19 @@ module _ (r : Region) (n : ℕ) (edge : Edge) (few : n < 16) where
 
 -- ---- sides of polygons
 
-pub left_of_side : (q : Position) (a b : Point) (n : ℕ) → direction_of (position_of a) (position_of b) ≡ Some n → (side_of (position_of a) n q ≡ Pos) ↔ IsLeftOfSide q a b
-left_of_side q a b n e =
-    subst (λ o. (side_of (position_of a) n q ≡ Pos) ↔ IfSome o (λ m. side_of (position_of a) m q ≡ Pos)) (sym e) ((λ h. h), λ h. h)
+pub left_of_side : (q : Position) (s : Side) (n : ℕ) → side_direction s ≡ Some n → (side_of (position_of s.start) n q ≡ Pos) ↔ IsTrue (is_left_of q s)
+left_of_side q s n e =
+    subst (λ o. (side_of (position_of s.start) n q ≡ Pos) ↔ IsTrue (is_positive (side_of (position_of s.start) (unwrap_or o 0) q))) (sym e)
+    (ap is_positive, is_pos (side_of (position_of s.start) n q))
+  where
+    is_pos : (sign : Sgn) → is_positive sign ≡ true → sign ≡ Pos
+    is_pos Neg f = absurd (false≢true f)
+    is_pos Zero f = absurd (false≢true f)
+    is_pos Pos f = refl
 
--- the place of a side tells its ends
-some_is : {x y : Point} → Some x ≡ Some y → x ≡ y
-some_is e = cc
-
-pub sides_at : (P : Point → Point → Type 0) (corners : List Point) (i : ℕ) (a b : Point) → IsSideAt corners i a b → P a b ↔ ((x y : Point) → IsSideAt corners i x y → P x y)
-sides_at P corners i a b at = (
-  (λ h x y at'.
-      let e : a ≡ x = some_is (sym at.0 ∙ at'.0) in
-      let f : b ≡ y = some_is (sym at.1 ∙ at'.1) in
-      subst (λ u. P u y) e (subst (P a) f h)),
-  λ h. h a b at,
+-- the first side of those that are left narrows the region
+pub next_side : {A B C : Type 0} (b c : Bool) → (A × IsTrue (b && c)) ↔ C → B ↔ (A × IsTrue b) → (B × IsTrue c) ↔ C
+next_side b c f g = (
+  (λ h. let a = g.0 h.0 in f.0 (a.0, and_from b c a.1 h.1)),
+  λ k. let a = f.1 k in let both = and_parts b c a.1 in (g.1 (a.0, both.0), both.1),
 )
-
-some_of_map : (o : Option Dir) → is_some (option_map dir_number o) ≡ is_some o
-some_of_map None = refl
-some_of_map (Some d) = refl
-
--- whether a direction was found
-pub direction_told : (o : Option Dir) (a b : Point) (t : Bool) → option_map dir_number o ≡ direction_of (position_of a) (position_of b) → is_some o ≡ t → is_some (direction_of (position_of a) (position_of b)) ≡ t
-direction_told o a b t e f = ap is_some (sym e) ∙ some_of_map o ∙ f
-
--- what was read at a place and at the next one is a side
-pub side_read : (corners : List Point) (i j : ℕ) (a b : Point) → i < length corners → j ≡ (i + 1) % length corners → j < length corners → a ≡ get_or corners i a → b ≡ get_or corners j b → IsSideAt corners i a b
-side_read corners i j a b inside at inside' read read' =
-    (slice_get_read corners (length corners) i a refl inside read, subst (λ k. slice_get corners k ≡ Some b) at (slice_get_read corners (length corners) j b refl inside' read'))
-
--- a side stands within the corners
-pub sides_within : (corners : List Point) (q : Position) (n : ℕ) → length corners ≤ n → ((i : ℕ) → i < n → (a b : Point) → IsSideAt corners i a b → IsLeftOfSide q a b) ↔ IsInPolygon q corners
-sides_within corners q n all =
-    ((λ h i a b at. let inside = slice_get_within corners i a at.0 in h i (omega arith) a b at), λ h i few a b at. h i a b at)

@@ -4,4 +4,3 @@ pub mod EdgeView
 pub mod Interval
 pub mod Region
 pub mod Strip
-pub mod Polygon

@@ -5,14 +5,14 @@ mod edge;
 mod interval;
 pub mod laws;
 
-ghost use Rattle.std.specs.Prelude.{◌≡◌, ◌↔◌, ◌+◌, ◌%◌, ◌<◌, ◌≤◌, MatchOption, IsTrue};
+ghost use Rattle.std.specs.Prelude.{◌≡◌, ◌↔◌, ◌<◌, ◌≤◌, MatchOption, IsTrue};
 ghost use Rattle.plane_geometry.specs.Position.{Position, position_of};
 ghost use Rattle.plane_geometry.specs.DirView.{dir_number};
-ghost use Rattle.open_region.specs.Polygon.{HaveDirections};
+ghost use Rattle.plane_geometry.specs.Polygon.{has_direction, have_directions, is_left_of, is_in_polygon};
 
 use edge::Edge;
 use interval::Interval;
-use plane_geometry::{Dir, Point, Segment, direction};
+use plane_geometry::{Dir, Point, Segment, direction, next_corner};
 use surd_number::Surd;
 
 /// For each of the 16 directions at most one line. It means the points strictly left of all its lines.
@@ -24,34 +24,12 @@ pub struct Region {
 /// The direction of the y axis.
 const UPWARDS: u8 = 4;
 
-/// The place after `i` among `count` places that go round.
-fn next_place(i: usize, count: usize) -> usize
-    requires { i < count }
-    ensures value { result ≡ (i + 1) % count }
-    ensures bound { result < count }
-{
-    if i + 1 < count { i + 1 } else { 0 }
-}
-
-/// Whether each side of a polygon has one of the 16 directions.
-pub fn have_directions(corners: &[Point]) -> bool
-    ensures { IsTrue result ↔ HaveDirections corners.now }
-{
-    for i in 0..corners.len() {
-        if direction(&corners[i], &corners[next_place(i, corners.len())]).is_none() {
-            return false;
-        }
-    }
-    true
-}
-
 impl Region {
     ghost use Rattle.surd_number.specs.Number.{Number};
     ghost use Rattle.open_region.specs.EdgeView.{line_offset_of};
     ghost use Rattle.open_region.specs.Interval.{IsInInterval};
     ghost use Rattle.open_region.specs.Region.{edge_at, IsLeftOf, IsLeftOfEdge, IsLeftOfLine, IsTighter, IsInRegion, HasPoint, HasPointBetween, IsHeight};
     ghost use Rattle.open_region.specs.Strip.{point_along, IsLevel, IsCrossed, HoldsAcross, HoldsAcrossAll};
-    ghost use Rattle.open_region.specs.Polygon.{HasDirection, IsLeftOfSide, IsInPolygon};
 
     /// The whole plane.
     pub fn whole() -> Region
@@ -62,12 +40,12 @@ impl Region {
 
     /// What is strictly inside a convex polygon, given by its corners counterclockwise.
     pub fn of_polygon(corners: &[Point]) -> Region
-        requires { HaveDirections corners.now }
-        ensures { (q : Position) → IsInRegion q result ↔ IsInPolygon q corners.now }
+        requires { IsTrue (have_directions corners.now) }
+        ensures { (q : Position) → IsInRegion q result ↔ IsTrue (is_in_polygon corners.now q) }
     {
         let mut region = Region::whole();
-        for i in 0..corners.len() {
-            region.narrow_to_side(&corners[i], &corners[next_place(i, corners.len())]);
+        for (i, corner) in corners.iter().enumerate() {
+            region.narrow_to_side(corner, next_corner(corners, i));
         }
         region
     }
@@ -153,9 +131,9 @@ impl Region {
 
     /// Keeps what is strictly left of a side of a polygon.
     fn narrow_to_side(&mut self, start: &Point, end: &Point)
-        requires { HasDirection start.now end.now }
+        requires { IsTrue (has_direction (record { start = start.now; end = end.now })) }
         ensures { (q : Position) → IsInRegion q self.new ↔
-            (IsInRegion q self.old × IsLeftOfSide q start.now end.now) }
+            (IsInRegion q self.old × IsTrue (is_left_of q (record { start = start.now; end = end.now }))) }
     {
         match direction(start, end) {
             Some(d) => self.narrow_to_line(start, d),

@@ -1,6 +1,7 @@
 //! Tables of regions, polygons and segments, worked with exact fractions in another language.
 
 use super::*;
+use plane_geometry::have_directions;
 use std::test::Fail;
 use surd_number::OutOfRange;
 

@@ -9,6 +9,7 @@ pub mod LineStored
 pub mod LineView
 pub mod Order
 pub mod SegmentOf
+pub mod Polygon
 pub mod Common
 pub mod Multiple
 pub mod CrossTable
@@ -24,3 +25,4 @@ pub mod MeetLaws
 pub mod CommonLaws
 pub mod LineLaws
 pub mod OrderLaws
+pub mod PolygonLaws

@@ -6,6 +6,7 @@ mod directions;
 pub mod laws;
 mod lines;
 mod meeting;
+mod polygon;
 mod segments;
 mod sides;
 
@@ -18,6 +19,7 @@ ghost use Rattle.plane_geometry.specs.LineStored.{PassesThroughPoint};
 pub use directions::direction;
 pub use lines::side;
 pub use meeting::{MeetFault, common_point, cross_unit, meet};
+pub use polygon::{have_directions, next_corner};
 pub use segments::{between_ends, meets_at_ends, on_segment, overlaps, parallel, share_point};
 pub use sides::side_from;
 use sides::{cross_at, is_before};

@@ -1,15 +1,14 @@
 -- The lines of a printed pattern are its own, so they load as that pattern.
 use Rattle.std.proofs.Common.{◌≡◌, ℕ, ◌+◌, List, [], ◌∷◌, ◌++◌, map, append_assoc, refl, ap, ap₂, ◌∙◌}
 use Rattle.std.proofs.lemmas.List.{map-append}
-use Rattle.plane_geometry.specs.declared.Point.{Point}
 use Rattle.plane_geometry.specs.declared.Segment.{Segment}
 use Rattle.crease_model.specs.declared.Piece.{Piece}
-use Rattle.crease_model.specs.Sheet.{sides_from, sides_of}
+use Rattle.plane_geometry.specs.Polygon.{Side, sides_of}
 use Rattle.crease_model.specs.View.{PatternView}
 use Rattle.crease_model.specs.OwnLines.{PlainLine, side_line, piece_line, auxiliary_line, own_lines}
 use Rattle.crease_store.specs.OwnLines.{plain_line, OwnLinesAreLoaded}
 use Rattle.cp_text.specs.declared.line.CpLine.{CpLine}
-use Rattle.cp_text.specs.LineText.{side_lines_from, side_lines, line_of_piece, line_of_auxiliary, pattern_lines}
+use Rattle.cp_text.specs.LineText.{line_of_side, line_of_piece, line_of_auxiliary, pattern_lines}
 use Rattle.script_lang.specs.Laws.{numbered_lines, PrintedPatternsAreLoaded, PrintedPatternsComeBack}
 
 -- the line to load that a crease line is
@@ -20,14 +19,9 @@ without_numbers : (n : ℕ) (lines : List CpLine) → map plain_line (numbered_l
 without_numbers n [] = refl
 without_numbers n (line ∷ lines) = ap (λ ls. line_loaded line ∷ ls) (without_numbers (n + 1) lines)
 
-sides_from_are : (first : Point) (ps : List Point) → map line_loaded (side_lines_from first ps) ≡ map side_line (sides_from first ps)
-sides_from_are first [] = refl
-sides_from_are first (p ∷ []) = refl
-sides_from_are first (p ∷ q ∷ ps) = ap (λ ls. side_line (record { start = p; end = q }) ∷ ls) (sides_from_are first (q ∷ ps))
-
-sides_are : (corners : List Point) → map line_loaded (side_lines corners) ≡ map side_line (sides_of corners)
+sides_are : (sides : List Side) → map line_loaded (map line_of_side sides) ≡ map side_line sides
 sides_are [] = refl
-sides_are (p ∷ ps) = sides_from_are p (p ∷ ps)
+sides_are (s ∷ ss) = ap (λ ls. side_line s ∷ ls) (sides_are ss)
 
 pieces_are : (pieces : List Piece) → map line_loaded (map line_of_piece pieces) ≡ map piece_line pieces
 pieces_are [] = refl
@@ -39,9 +33,9 @@ auxiliary_are (s ∷ ss) = ap (λ ls. auxiliary_line s ∷ ls) (auxiliary_are ss
 
 lines_are_own : (p : PatternView) → map line_loaded (pattern_lines p) ≡ own_lines p
 lines_are_own p =
-    ap (map line_loaded) (append_assoc (side_lines p.corners) (map line_of_piece p.pieces) (map line_of_auxiliary p.aux))
-    ∙ map-append line_loaded (side_lines p.corners) (map line_of_piece p.pieces ++ map line_of_auxiliary p.aux)
-    ∙ ap₂ ◌++◌ (sides_are p.corners)
+    ap (map line_loaded) (append_assoc (map line_of_side (sides_of p.corners)) (map line_of_piece p.pieces) (map line_of_auxiliary p.aux))
+    ∙ map-append line_loaded (map line_of_side (sides_of p.corners)) (map line_of_piece p.pieces ++ map line_of_auxiliary p.aux)
+    ∙ ap₂ ◌++◌ (sides_are (sides_of p.corners))
     (map-append line_loaded (map line_of_piece p.pieces) (map line_of_auxiliary p.aux) ∙ ap₂ ◌++◌ (pieces_are p.pieces) (auxiliary_are p.aux))
 
 pub printed_patterns_come_back : PrintedPatternsAreLoaded → OwnLinesAreLoaded → PrintedPatternsComeBack

@@ -17,7 +17,8 @@ use Rattle.vertex_checks.specs.declared.faults.VertexFault.{VertexFault}
 use Rattle.vertex_checks.specs.Vertices.{IsEnd, IsInnerEnd, vertices_of}
 use Rattle.vertex_checks.specs.Fan.{ray_of, Leaves, IsFan, fan_of}
 use Rattle.plane_geometry.specs.SegmentView.{direction_number}
-use Rattle.vertex_checks.specs.Sectors.{ray_in, around, sector_at, reflected_from, ComesRound, is_same_kind, count_of_kind, IsUnbalanced, IsSmallSector}
+use Rattle.crease_model.specs.Kind.{is_same_kind}
+use Rattle.vertex_checks.specs.Sectors.{ray_in, around, sector_at, reflected_from, ComesRound, count_of_kind, IsUnbalanced, IsSmallSector}
 use Rattle.vertex_checks.specs.Faults.{HasSmallSector, Breaks, IsFault, KawasakiIsByAngles, comes_round, kawasaki_faults, differ_by_two, maekawa_faults, is_small_sector, little_fault_at, little_faults, fan_faults, vertex_fault, faults_at, faults_of}
 use Rattle.vertex_checks.proofs.SortedLists.{member_left, member_right, member_either, member_map, map_member, member_flat, flat_member, range_member, member_range}
 use Rattle.vertex_checks.proofs.FanLaws.{fan_is, one_fan}

@@ -17,7 +17,8 @@ use Rattle.vertex_checks.specs.declared.faults.LocalFault.TheVariants.{Kawasaki,
 use Rattle.vertex_checks.specs.declared.faults.VertexFault.{VertexFault}
 use Rattle.vertex_checks.specs.Vertices.{IsInnerEnd, vertices_of}
 use Rattle.vertex_checks.specs.Fan.{IsFan, fan_of}
-use Rattle.vertex_checks.specs.Sectors.{ray_in, around, sector_at, reflected_from, ComesRound, IsStraight, is_same_kind, count_of_kind, IsUnbalanced, IsSmallSector}
+use Rattle.crease_model.specs.Kind.{is_same_kind}
+use Rattle.vertex_checks.specs.Sectors.{ray_in, around, sector_at, reflected_from, ComesRound, IsStraight, count_of_kind, IsUnbalanced, IsSmallSector}
 
 -- ---- which
 

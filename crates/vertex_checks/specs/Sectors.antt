@@ -2,6 +2,7 @@
 use Rattle.std.specs.Prelude.{◌≡◌, ◌≢◌, ℕ, ◌+◌, ◌-◌, ◌%◌, ◌<◌, Bool, true, false, List, [], ◌∷◌, length, slice_index_or, IsTrue}
 use Rattle.std.specs.List.{count_by}
 use Rattle.crease_model.specs.declared.Kind.{Kind}
+use Rattle.crease_model.specs.Kind.{is_same_kind}
 use Rattle.crease_model.specs.declared.Kind.TheVariants.{Edge, Mountain, Valley, Aux}
 use Rattle.isometry_map.specs.Linear.{rotation, reflection, composed}
 use Rattle.vertex_checks.specs.declared.fans.Ray.{Ray}
@@ -50,13 +51,6 @@ pub record IsStraight (fan : List Ray) : Type 0 where
   pub half : every_other fan ≡ 8
 
 -- ---- Maekawa
-
-abbrev pub is_same_kind : Kind → Kind → Bool
-is_same_kind Edge Edge = true
-is_same_kind Mountain Mountain = true
-is_same_kind Valley Valley = true
-is_same_kind Aux Aux = true
-is_same_kind _ _ = false
 
 -- how many creases are of this kind
 abbrev pub count_of_kind : Kind → List Ray → ℕ

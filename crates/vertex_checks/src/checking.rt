@@ -5,12 +5,12 @@ ghost use Rattle.isometry_map.specs.LinearView.{linear_number};
 ghost use Rattle.plane_geometry.specs.declared.Point.{Point};
 ghost use Rattle.vertex_checks.specs.Fan.{fan_of};
 ghost use Rattle.vertex_checks.specs.FanMap.{kept_fan};
-ghost use Rattle.vertex_checks.specs.Sectors.{is_same_kind, count_of_kind};
+ghost use Rattle.vertex_checks.specs.Sectors.{count_of_kind};
 ghost use Rattle.vertex_checks.specs.Faults.{IsFault, KawasakiIsByAngles, IsInOrder, comes_round, kawasaki_faults, maekawa_faults, fan_faults, vertex_fault, vertex_faults, faults_at, faults_of};
 
 use crate::fans::{Fans, Ray, fan_in, fans_of};
 use crate::faults::{LocalFault, VertexFault};
-use crate::sectors::{push_little_faults, same_kind};
+use crate::sectors::push_little_faults;
 use crate::vertices::vertices;
 use crease_model::{Kind, Pattern, Piece};
 use isometry_map::Linear;
@@ -34,7 +34,7 @@ fn count_of_kind(kind: Kind, fan: &[Ray]) -> u32
 {
     let mut count = 0;
     for ray in fan {
-        if same_kind(ray.kind, kind) {
+        if ray.kind.same(kind) {
             count += 1;
         }
     }

@@ -1,27 +1,14 @@
 //! The big-little-big lemma: sectors smaller than both beside them.
 
 ghost use Rattle.std.specs.Prelude.{◌≡◌, ◌<◌, ◌≤◌, ◌++◌, length, OnOk};
-ghost use Rattle.vertex_checks.specs.Sectors.{sector, around, sector_at, is_same_kind};
+ghost use Rattle.vertex_checks.specs.Sectors.{sector, around, sector_at};
 ghost use Rattle.vertex_checks.specs.Faults.{is_small_sector, little_fault_at, little_faults, vertex_faults};
 
 use crate::checking::push_fault;
 use crate::fans::Ray;
 use crate::faults::{LocalFault, VertexFault};
-use crease_model::Kind;
 use plane_geometry::Point;
 use std::alloc::AllocError;
-
-pub(crate) fn same_kind(one: Kind, other: Kind) -> bool
-    ensures { result ≡ is_same_kind one other }
-{
-    match (one, other) {
-        (Kind::Edge, Kind::Edge)
-        | (Kind::Mountain, Kind::Mountain)
-        | (Kind::Valley, Kind::Valley)
-        | (Kind::Aux, Kind::Aux) => true,
-        _ => false,
-    }
-}
 
 // How far it is from one ray to the next, counterclockwise.
 fn sector(q: Ray, r: Ray) -> u8
@@ -56,7 +43,7 @@ fn is_small_sector(fan: &[Ray], k: usize) -> bool
     let size = sector_at(fan, k);
     size < sector_at(fan, k + fan.len() - 1)
         && size < sector_at(fan, k + 1)
-        && same_kind(around(fan, k).kind, around(fan, k + 1).kind)
+        && around(fan, k).kind.same(around(fan, k + 1).kind)
 }
 
 fn push_little_fault(

@@ -3,9 +3,9 @@ use Rattle.std.specs.List.{sum}
 use Rattle.std.specs.Option.{option_map}
 use Rattle.plane_geometry.specs.declared.Point.{Point}
 use Rattle.plane_geometry.specs.DirView.{dir_number}
-use Rattle.crease_model.specs.Sheet.{side_direction}
+use Rattle.plane_geometry.specs.Polygon.{side_direction}
 use Rattle.crease_model.specs.NewSheet.{Bend, bends_from, bends_of, first_bad, bend_turn}
-use Rattle.crease_model.proofs.SideLists.{sides_left}
+use Rattle.plane_geometry.specs.PolygonLaws.{sides_left}
 use Rattle.crease_model.proofs.corners.fault_of.Given as goal
 
 -- the bends at the i-th corner and after it

@@ -1,8 +1,8 @@
 use Rattle.std.proofs.Common.{◌≡◌, ◌&&◌}
 use Rattle.std.specs.List.{list_all, list_any}
 use Rattle.plane_geometry.specs.Position.{position_of}
-use Rattle.crease_model.specs.Sheet.{sides_of, is_left_of, is_right_of}
-use Rattle.crease_model.proofs.SideLists.{sides_left}
+use Rattle.plane_geometry.specs.Polygon.{sides_of, is_left_of, is_right_of}
+use Rattle.plane_geometry.specs.PolygonLaws.{sides_left}
 use Rattle.crease_model.proofs.sides.place_among.Given as goal
 
 abbrev pub invariant-loop-i : goal.invariant-loop-i

@@ -1,8 +1,9 @@
 use Rattle.std.proofs.Common.{◌≡◌}
 use Rattle.std.specs.List.{list_any}
 use Rattle.plane_geometry.specs.SegmentView.{stretch_of}
-use Rattle.crease_model.specs.Sheet.{sides_of, holds_both_ends}
-use Rattle.crease_model.proofs.SideLists.{sides_left}
+use Rattle.plane_geometry.specs.Polygon.{sides_of}
+use Rattle.crease_model.specs.Sheet.{holds_both_ends}
+use Rattle.plane_geometry.specs.PolygonLaws.{sides_left}
 use Rattle.crease_model.proofs.sides.within_side.Given as goal
 
 abbrev pub invariant-loop-i : goal.invariant-loop-i
