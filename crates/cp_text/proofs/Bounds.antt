@@ -18,8 +18,10 @@ over_parts a b = record { a = a; b = b; k = 16 }
 -- a numerator of at most 2^36 over 2^k is at most 2^52 over 2^16
 small : (m n : ℤ) (k : ℕ) → unsigned_abs m ≤ 2 ^ 36 → m *ℤ power 16 ≡ n *ℤ power k → unsigned_abs n ≤ 2 ^ 52
 small m n k h e =
-    let sizes : unsigned_abs m * 2 ^ 16 ≡ unsigned_abs n * 2 ^ k = sym (unsigned_abs-mul m (power 16)) ∙ ap unsigned_abs e ∙ unsigned_abs-mul n (power k) in
-    let grows : unsigned_abs n * 1 ≤ unsigned_abs n * 2 ^ k = mul-le (unsigned_abs n) 1 (unsigned_abs n) (2 ^ k) (omega arith) (pow_pos k) in
+    let sizes : unsigned_abs m * 2 ^ 16 ≡ unsigned_abs n * 2 ^ k = sym (unsigned_abs-mul m (power 16))
+    ∙ ap unsigned_abs e ∙ unsigned_abs-mul n (power k) in
+    let grows : unsigned_abs n * 1 ≤ unsigned_abs n * 2 ^ k = mul-le (unsigned_abs n) 1 (unsigned_abs n)
+    (2 ^ k) (omega arith) (pow_pos k) in
     omega arith
 
 large_first : (a b : ℤ) → 2 ^ 52 < unsigned_abs a → surd_of (over_parts a b) ≡ None
@@ -51,23 +53,28 @@ surd_of-bounded a b =
     ]
 
 -- the answer stays the same
-pub parts_read_bounded : (a b : Option ℤ) → parts_read (option_map bounded a) (option_map bounded b) ≡ parts_read a b
+pub parts_read_bounded : (a b : Option ℤ)
+    → parts_read (option_map bounded a) (option_map bounded b) ≡ parts_read a b
 parts_read_bounded (Some a) (Some b) = ap surd_answer (surd_of-bounded a b)
 parts_read_bounded (Some a) None = refl
 parts_read_bounded None b = refl
 
-pub rational_bounded : (a : Option ℤ) → parts_read (option_map bounded a) (Some (pos 0)) ≡ parts_read a (Some (pos 0))
+pub rational_bounded : (a : Option ℤ)
+    → parts_read (option_map bounded a) (Some (pos 0)) ≡ parts_read a (Some (pos 0))
 rational_bounded a = parts_read_bounded a (Some (pos 0))
 
-pub root_bounded : (b : Option ℤ) → parts_read (Some (pos 0)) (option_map bounded b) ≡ parts_read (Some (pos 0)) b
+pub root_bounded : (b : Option ℤ)
+    → parts_read (Some (pos 0)) (option_map bounded b) ≡ parts_read (Some (pos 0)) b
 root_bounded b = parts_read_bounded (Some (pos 0)) b
 
 -- the sign of a bounded number of parts
-pub signed_bounded : (negative : Bool) (n : ℕ) → signed negative (min n (2 ^ 53)) ≡ bounded (signed negative n)
+pub signed_bounded : (negative : Bool) (n : ℕ)
+    → signed negative (min n (2 ^ 53)) ≡ bounded (signed negative n)
 signed_bounded false n = refl
 signed_bounded true zero = refl
 signed_bounded true (suc n) = omega (arith, ints)
 
 -- what an exact sum of parts answers
-pub surd_of_exactly : (a b : ℤ) (r : Result Surd OutOfRange) → IsExactly r (over_parts a b) → surd_of (over_parts a b) ≡ result_ok r
+pub surd_of_exactly : (a b : ℤ) (r : Result Surd OutOfRange) → IsExactly r (over_parts a b)
+    → surd_of (over_parts a b) ≡ result_ok r
 surd_of_exactly a b r h = surd_of-exactly (over_parts a b) r h

@@ -12,7 +12,8 @@ digits_value-ge n [] = omega arith
 digits_value-ge n (d ∷ ds) = omega (arith, digits_value-ge (10 * n + (d - 48)) ds)
 
 -- a bound on the value so far is one on the whole value
-pub bounded_value : (n most : ℕ) (ds : List ℕ) → min (digits_value (min n most) ds) most ≡ min (digits_value n ds) most
+pub bounded_value : (n most : ℕ) (ds : List ℕ)
+    → min (digits_value (min n most) ds) most ≡ min (digits_value n ds) most
 bounded_value n most ds =
     elim (cases_lt most n) [
       | inl above ↦
@@ -35,18 +36,23 @@ pub without_zeros-digit : (ds : List ℕ) (b : ℕ) → b ≢ 48 → without_zer
 without_zeros-digit [] b h = grind (arith, nat_tests)
 without_zeros-digit (d ∷ ds) b h = ap (kept_digit d) (without_zeros-digit ds b h) ∙ kept_digit-append d b ds
 
-pub take_last : (n : ℕ) (ds : List ℕ) → 0 < n → n ≤ length ds → take n ds ≡ take (n - 1) ds ++ get_or ds (n - 1) 0 ∷ []
+pub take_last : (n : ℕ) (ds : List ℕ) → 0 < n → n ≤ length ds
+    → take n ds ≡ take (n - 1) ds ++ get_or ds (n - 1) 0 ∷ []
 take_last n ds h l =
     let here : n - 1 + 1 ≡ n = omega arith in
     ap (λ m. take m ds) (sym here) ∙ take_more ds (n - 1) 0 (omega arith)
 
-pub trim_zero : (n : ℕ) (ds : List ℕ) → 0 < n → n ≤ length ds → get_or ds (n - 1) 0 ≡ 48 → without_zeros (take (n - 1) ds) ≡ without_zeros (take n ds)
+pub trim_zero : (n : ℕ) (ds : List ℕ) → 0 < n → n ≤ length ds → get_or ds (n - 1) 0 ≡ 48
+    → without_zeros (take (n - 1) ds) ≡ without_zeros (take n ds)
 trim_zero n ds h l e =
-    sym (ap without_zeros (take_last n ds h l ∙ ap (λ b. take (n - 1) ds ++ b ∷ []) e) ∙ without_zeros-zero (take (n - 1) ds))
+    sym (ap without_zeros (take_last n ds h l ∙ ap (λ b. take (n - 1) ds ++ b ∷ []) e)
+    ∙ without_zeros-zero (take (n - 1) ds))
 
-pub trim_digit : (n : ℕ) (ds : List ℕ) → 0 < n → n ≤ length ds → get_or ds (n - 1) 0 ≢ 48 → without_zeros (take n ds) ≡ take n ds
+pub trim_digit : (n : ℕ) (ds : List ℕ) → 0 < n → n ≤ length ds → get_or ds (n - 1) 0 ≢ 48
+    → without_zeros (take n ds) ≡ take n ds
 trim_digit n ds h l ne =
-    ap without_zeros (take_last n ds h l) ∙ without_zeros-digit (take (n - 1) ds) (get_or ds (n - 1) 0) ne ∙ sym (take_last n ds h l)
+    ap without_zeros (take_last n ds h l) ∙ without_zeros-digit (take (n - 1) ds) (get_or ds (n - 1) 0) ne
+    ∙ sym (take_last n ds h l)
 
 pub trim_none : (n : ℕ) (ds : List ℕ) → n ≡ 0 → without_zeros (take n ds) ≡ take n ds
 trim_none n ds e = rw e refl
@@ -55,7 +61,8 @@ pub five_positive : (k : ℕ) → 0 < 5 ^ k
 five_positive k = one-le-pow k 5 (lit< tt)
 
 -- the parts of 2^16 fit 64 bits
-pub parts_fit : (n d : ℕ) → n + 23 ≤ 23 * 10 ^ d → d ≤ 16 → (n / 5 ^ d * 2 ^ (16 - d)) % 2 ^ 64 ≡ n / 5 ^ d * 2 ^ (16 - d)
+pub parts_fit : (n d : ℕ) → n + 23 ≤ 23 * 10 ^ d → d ≤ 16
+    → (n / 5 ^ d * 2 ^ (16 - d)) % 2 ^ 64 ≡ n / 5 ^ d * 2 ^ (16 - d)
 parts_fit n d bound h =
     let tens : 10 ^ d ≡ 2 ^ d * 5 ^ d = mul-pow 2 5 d in
     let below : n < 2 ^ d * 32 * 5 ^ d = omega (arith, ap (λ m. 32 * m) tens) in
@@ -65,4 +72,5 @@ parts_fit n d bound h =
 
 -- one more digit behind up to fifteen fits 64 bits
 pub digit_fits : (n d i : ℕ) → n + 23 ≤ 23 * 10 ^ i → i < 16 → d ≤ 207 → 10 * n + d < 2 ^ 64
-digit_fits n d i bound h few = omega (arith, pow-le-pow_right {n = 10} (lit< tt) {i = i} {j = 16} (omega arith))
+digit_fits n d i bound h few =
+    omega (arith, pow-le-pow_right {n = 10} (lit< tt) {i = i} {j = 16} (omega arith))

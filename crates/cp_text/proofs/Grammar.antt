@@ -45,14 +45,18 @@ record IsScan (text : List ℕ) (scan : Scan) : Type 0 where
 some_same : {X : Type 0} (x y : X) → Some x ≡ Some y → x ≡ y
 some_same x y e = cc
 
-with_fraction-is : (whole fs rest : List ℕ) (scan : Scan) → with_fraction whole fs rest ≡ Some scan → (0 < length fs) × (record { whole = whole; fraction = fs; rest = rest } ≡ scan)
+with_fraction-is : (whole fs rest : List ℕ) (scan : Scan) → with_fraction whole fs rest ≡ Some scan
+    → (0 < length fs) × (record { whole = whole; fraction = fs; rest = rest } ≡ scan)
 with_fraction-is whole [] rest scan e = cc
-with_fraction-is whole (f ∷ fs) rest scan e = (omega arith, some_same (record { whole = whole; fraction = f ∷ fs; rest = rest }) scan e)
+with_fraction-is whole (f ∷ fs) rest scan e =
+    (omega arith, some_same (record { whole = whole; fraction = f ∷ fs; rest = rest }) scan e)
 
-behind_whole-is : (whole rest : List ℕ) (scan : Scan) → AreDigits whole → 0 < length whole → behind_whole whole rest ≡ Some scan → IsScan (whole ++ rest) scan
+behind_whole-is : (whole rest : List ℕ) (scan : Scan) → AreDigits whole → 0 < length whole
+    → behind_whole whole rest ≡ Some scan → IsScan (whole ++ rest) scan
 behind_whole-is whole [] scan h some e =
     let P : Scan → Type 0 = IsScan (whole ++ []) in
-    subst P (some_same (record { whole = whole; fraction = []; rest = [] }) scan e) (record { whole = h; some = some; fraction = digits_none; written = refl })
+    subst P (some_same (record { whole = whole; fraction = []; rest = [] }) scan e)
+    (record { whole = h; some = some; fraction = digits_none; written = refl })
 behind_whole-is whole (b ∷ bs) scan h some e =
     let P : Scan → Type 0 = IsScan (whole ++ (b ∷ bs)) in
     elim (cases_eq b 46) [
@@ -60,21 +64,30 @@ behind_whole-is whole (b ∷ bs) scan h some e =
           let test : (b == 46) ≡ true = grind (arith, nat_tests) in
           let found = with_fraction-is whole (leading_digits bs) (behind_digits bs) scan (rw test at e) in
           let written : behind_point (leading_digits bs) ++ behind_digits bs ≡ b ∷ bs =
-          ap (λ xs. xs ++ behind_digits bs) (point-some (leading_digits bs) found.0) ∙ ap₂ (λ x xs. x ∷ xs) (sym point) (leading-behind bs) in
-          subst P found.1 (record { whole = h; some = some; fraction = leading-digits bs; written = ap (λ xs. whole ++ xs) written })
+          ap (λ xs. xs ++ behind_digits bs) (point-some (leading_digits bs) found.0)
+          ∙ ap₂ (λ x xs. x ∷ xs) (sym point) (leading-behind bs) in
+          subst P found.1 (record {
+            whole = h;
+            some = some;
+            fraction = leading-digits bs;
+            written = ap (λ xs. whole ++ xs) written;
+          })
       | inr other ↦
           let test : (b == 46) ≡ false = grind (arith, nat_tests) in
-          subst P (some_same (record { whole = whole; fraction = []; rest = b ∷ bs }) scan (rw test at e)) (record { whole = h; some = some; fraction = digits_none; written = refl })
+          subst P (some_same (record { whole = whole; fraction = []; rest = b ∷ bs }) scan (rw test at e))
+          (record { whole = h; some = some; fraction = digits_none; written = refl })
     ]
 
-with_whole-is : (whole rest : List ℕ) (scan : Scan) → AreDigits whole → with_whole whole rest ≡ Some scan → IsScan (whole ++ rest) scan
+with_whole-is : (whole rest : List ℕ) (scan : Scan) → AreDigits whole → with_whole whole rest ≡ Some scan
+    → IsScan (whole ++ rest) scan
 with_whole-is [] rest scan h e = cc
 with_whole-is (d ∷ ds) rest scan h e = behind_whole-is (d ∷ ds) rest scan h (omega arith) e
 
 decimal_at-is : (text : List ℕ) (scan : Scan) → decimal_at text ≡ Some scan → IsScan text scan
 decimal_at-is text scan e =
     let P : List ℕ → Type 0 = λ t. IsScan t scan in
-    subst P (leading-behind text) (with_whole-is (leading_digits text) (behind_digits text) scan (leading-digits text) e)
+    subst P (leading-behind text)
+    (with_whole-is (leading_digits text) (behind_digits text) scan (leading-digits text) e)
 
 -- ---- digits by their two names
 
@@ -86,8 +99,10 @@ pub digits_some : (ds : List ℕ) → is_digits ds ≡ true → AreDigits ds × 
 digits_some [] h = cc
 digits_some (d ∷ ds) h = (record { all = h }, omega arith)
 
-scanned_decimal : (negative : Bool) (text : List ℕ) (scan : Scan) → IsScan text scan → IsDecimal (signed_decimal negative scan)
-scanned_decimal negative text scan h = record { whole = some_digits scan.whole h.whole h.some; fraction = h.fraction.all }
+scanned_decimal : (negative : Bool) (text : List ℕ) (scan : Scan) → IsScan text scan
+    → IsDecimal (signed_decimal negative scan)
+scanned_decimal negative text scan h =
+    record { whole = some_digits scan.whole h.whole h.some; fraction = h.fraction.all }
 
 -- ---- from the reader to the grammar
 
@@ -95,14 +110,16 @@ minus-is : (text : List ℕ) → front_sign (has_minus text) ++ behind_minus tex
 minus-is [] = refl
 minus-is (b ∷ bs) =
     elim (cases_eq b 45) [
-      | inl minus ↦ let test : (b == 45) ≡ true = grind (arith, nat_tests) in rw test (ap (λ x. x ∷ bs) (sym minus))
+      | inl minus ↦ let test : (b == 45) ≡ true = grind (arith, nat_tests)
+          in rw test (ap (λ x. x ∷ bs) (sym minus))
       | inr other ↦ let test : (b == 45) ≡ false = grind (arith, nat_tests) in rw test refl
     ]
 
 root_mark-is : (text : List ℕ) → is_root_mark text ≡ true → root_mark ≡ text
 root_mark-is text h = sym ((bytes_eq-Decides text (codes "r2")).0 h)
 
-second-form : (first : SignedDecimal) (negative : Bool) (text : List ℕ) (o : Option Scan) (word : NumberWord) → IsDecimal first → decimal_at text ≡ o → second_part first negative o ≡ Some word
+second-form : (first : SignedDecimal) (negative : Bool) (text : List ℕ) (o : Option Scan) (word : NumberWord)
+    → IsDecimal first → decimal_at text ≡ o → second_part first negative o ≡ Some word
     → IsWordOf (front_text first ++ (middle_sign negative ++ text)) word
 second-form first negative text None word h scanned e = cc
 second-form first negative text (Some scan) word h scanned e =
@@ -111,13 +128,18 @@ second-form first negative text (Some scan) word h scanned e =
           let s = decimal_at-is text scan scanned in
           let P : NumberWord → Type 0 = IsWordOf (front_text first ++ (middle_sign negative ++ text)) in
           let written : decimal_text (signed_decimal negative scan) ++ root_mark ≡ text =
-          append_assoc scan.whole (behind_point scan.fraction) root_mark ∙ ap (λ rest. scan.whole ++ (behind_point scan.fraction ++ rest)) (root_mark-is scan.rest mark) ∙ s.written in
-          subst P (some_same (Both first (signed_decimal negative scan)) word (rw mark at e))
-          ((h, scanned_decimal negative text scan s), ap (λ t. front_text first ++ (middle_sign negative ++ t)) written)
+          append_assoc scan.whole (behind_point scan.fraction) root_mark
+          ∙ ap (λ rest. scan.whole ++ (behind_point scan.fraction ++ rest)) (root_mark-is scan.rest mark)
+          ∙ s.written in
+          subst P (some_same (Both first (signed_decimal negative scan)) word (rw mark at e)) (
+            (h, scanned_decimal negative text scan s),
+            ap (λ t. front_text first ++ (middle_sign negative ++ t)) written,
+          )
       | inr other ↦ let none : None ≡ Some word = rw other at e in cc
     ]
 
-behind-form : (first : SignedDecimal) (rest : List ℕ) (word : NumberWord) → IsDecimal first → behind_first first rest ≡ Some word → IsWordOf (front_text first ++ rest) word
+behind-form : (first : SignedDecimal) (rest : List ℕ) (word : NumberWord) → IsDecimal first
+    → behind_first first rest ≡ Some word → IsWordOf (front_text first ++ rest) word
 behind-form first [] word h e =
     let P : NumberWord → Type 0 = IsWordOf (front_text first ++ []) in
     subst P (some_same (Rational first) word e) (h, sym (append-nil (front_text first)))
@@ -125,7 +147,8 @@ behind-form first (b ∷ bs) word h e =
     let P : NumberWord → Type 0 = IsWordOf (front_text first ++ (b ∷ bs)) in
     elim (bool_cases (is_root_mark (b ∷ bs))) [
       | inl mark ↦
-          subst P (some_same (Root first) word (rw mark at e)) (h, ap (λ t. front_text first ++ t) (root_mark-is (b ∷ bs) mark))
+          subst P (some_same (Root first) word (rw mark at e))
+          (h, ap (λ t. front_text first ++ t) (root_mark-is (b ∷ bs) mark))
       | inr other ↦
           let e' = rw other at e in
           elim (cases_eq b 43) [
@@ -140,7 +163,8 @@ behind-form first (b ∷ bs) word h e =
                   | inl minus ↦
                       let test : (b == 45) ≡ true = grind (arith, nat_tests) in
                       let Q : ℕ → Type 0 = λ x. IsWordOf (front_text first ++ (x ∷ bs)) word in
-                      subst Q (sym minus) (second-form first true bs (decimal_at bs) word h refl (rw test at e''))
+                      subst Q (sym minus) (second-form first true bs (decimal_at bs) word h refl
+                      (rw test at e''))
                   | inr no_minus ↦
                       let not_minus : (b == 45) ≡ false = grind (arith, nat_tests) in
                       let none : None ≡ Some word = rw not_minus at e'' in cc
@@ -148,19 +172,23 @@ behind-form first (b ∷ bs) word h e =
           ]
     ]
 
-front-is : (text : List ℕ) (scan : Scan) → IsScan (behind_minus text) scan → front_text (signed_decimal (has_minus text) scan) ++ scan.rest ≡ text
+front-is : (text : List ℕ) (scan : Scan) → IsScan (behind_minus text) scan
+    → front_text (signed_decimal (has_minus text) scan) ++ scan.rest ≡ text
 front-is text scan s =
     append_assoc (front_sign (has_minus text)) (scan.whole ++ behind_point scan.fraction) scan.rest
-    ∙ ap (λ t. front_sign (has_minus text) ++ t) (append_assoc scan.whole (behind_point scan.fraction) scan.rest ∙ s.written)
+    ∙ ap (λ t. front_sign (has_minus text) ++ t)
+    (append_assoc scan.whole (behind_point scan.fraction) scan.rest ∙ s.written)
     ∙ minus-is text
 
-first-form : (text : List ℕ) (o : Option Scan) (word : NumberWord) → decimal_at (behind_minus text) ≡ o → first_part (has_minus text) o ≡ Some word → IsWordOf text word
+first-form : (text : List ℕ) (o : Option Scan) (word : NumberWord) → decimal_at (behind_minus text) ≡ o
+    → first_part (has_minus text) o ≡ Some word → IsWordOf text word
 first-form text None word scanned e = cc
 first-form text (Some scan) word scanned e =
     let s = decimal_at-is (behind_minus text) scan scanned in
     let P : List ℕ → Type 0 = λ t. IsWordOf t word in
     subst P (front-is text scan s)
-    (behind-form (signed_decimal (has_minus text) scan) scan.rest word (scanned_decimal (has_minus text) (behind_minus text) scan s) e)
+    (behind-form (signed_decimal (has_minus text) scan) scan.rest word
+    (scanned_decimal (has_minus text) (behind_minus text) scan s) e)
 
 pub number_word-form : (text : List ℕ) (word : NumberWord) → number_word text ≡ Some word → IsWordOf text word
 number_word-form text word e = first-form text (decimal_at (behind_minus text)) word refl e
@@ -176,7 +204,8 @@ no_digit-end : (rest : List ℕ) → ends_decimal rest ≡ true → no_digit_fir
 no_digit-end [] h = refl
 no_digit-end (b ∷ bs) h = grind (arith, nat_tests)
 
-no_digit-point : (fs rest : List ℕ) → ends_decimal rest ≡ true → no_digit_first (behind_point fs ++ rest) ≡ true
+no_digit-point : (fs rest : List ℕ) → ends_decimal rest ≡ true
+    → no_digit_first (behind_point fs ++ rest) ≡ true
 no_digit-point [] rest h = no_digit-end rest h
 no_digit-point (f ∷ fs) rest h = refl
 
@@ -184,24 +213,32 @@ with_whole-some : (ds rest : List ℕ) → 0 < length ds → with_whole ds rest 
 with_whole-some [] rest h = absurd (omega arith)
 with_whole-some (d ∷ ds) rest h = refl
 
-behind_whole-none : (ds rest : List ℕ) → ends_decimal rest ≡ true → behind_whole ds rest ≡ Some (record { whole = ds; fraction = []; rest = rest })
+behind_whole-none : (ds rest : List ℕ) → ends_decimal rest ≡ true
+    → behind_whole ds rest ≡ Some (record { whole = ds; fraction = []; rest = rest })
 behind_whole-none ds [] h = refl
 behind_whole-none ds (b ∷ bs) h = grind (arith, nat_tests)
 
-behind_whole-text : (ds fs rest : List ℕ) → AreDigits fs → ends_decimal rest ≡ true → behind_whole ds (behind_point fs ++ rest) ≡ Some (record { whole = ds; fraction = fs; rest = rest })
+behind_whole-text : (ds fs rest : List ℕ) → AreDigits fs → ends_decimal rest ≡ true
+    → behind_whole ds (behind_point fs ++ rest) ≡ Some (record { whole = ds; fraction = fs; rest = rest })
 behind_whole-text ds [] rest h e = behind_whole-none ds rest e
 behind_whole-text ds (f ∷ fs) rest h e =
-    ap₂ (λ digits behind. with_fraction ds digits behind) (leading_digits-append (f ∷ fs) rest h (no_digit-end rest e)) (behind_digits-append (f ∷ fs) rest h (no_digit-end rest e))
+    ap₂ (λ digits behind. with_fraction ds digits behind)
+    (leading_digits-append (f ∷ fs) rest h (no_digit-end rest e))
+    (behind_digits-append (f ∷ fs) rest h (no_digit-end rest e))
 
 -- a decimal in front of anything that ends it
-decimal_at-text : (ds fs rest : List ℕ) → AreDigits ds → 0 < length ds → AreDigits fs → ends_decimal rest ≡ true → decimal_at (ds ++ (behind_point fs ++ rest)) ≡ Some (record { whole = ds; fraction = fs; rest = rest })
+decimal_at-text : (ds fs rest : List ℕ) → AreDigits ds → 0 < length ds → AreDigits fs
+    → ends_decimal rest ≡ true → decimal_at (ds ++ (behind_point fs ++ rest))
+    ≡ Some (record { whole = ds; fraction = fs; rest = rest })
 decimal_at-text ds fs rest h some h' e =
     let plain = no_digit-point fs rest e in
-    ap₂ with_whole (leading_digits-append ds (behind_point fs ++ rest) h plain) (behind_digits-append ds (behind_point fs ++ rest) h plain)
+    ap₂ with_whole (leading_digits-append ds (behind_point fs ++ rest) h plain)
+    (behind_digits-append ds (behind_point fs ++ rest) h plain)
     ∙ with_whole-some ds (behind_point fs ++ rest) some
     ∙ behind_whole-text ds fs rest h' e
 
-no_minus : (ds rest : List ℕ) → AreDigits ds → 0 < length ds → (has_minus (ds ++ rest) ≡ false) × (behind_minus (ds ++ rest) ≡ ds ++ rest)
+no_minus : (ds rest : List ℕ) → AreDigits ds → 0 < length ds
+    → (has_minus (ds ++ rest) ≡ false) × (behind_minus (ds ++ rest) ≡ ds ++ rest)
 no_minus [] rest h some = absurd (omega arith)
 no_minus (d ∷ ds) rest h some =
     let least = digit_byte_least d (digits_first d ds h) in
@@ -210,14 +247,16 @@ no_minus (d ∷ ds) rest h some =
 abbrev scan_with : SignedDecimal → List ℕ → Scan
 scan_with d rest = record { whole = d.whole; fraction = d.fraction; rest = rest }
 
-decimal-scan : (d : SignedDecimal) (rest : List ℕ) → IsDecimal d → ends_decimal rest ≡ true → decimal_at (decimal_text d ++ rest) ≡ Some (scan_with d rest)
+decimal-scan : (d : SignedDecimal) (rest : List ℕ) → IsDecimal d → ends_decimal rest ≡ true
+    → decimal_at (decimal_text d ++ rest) ≡ Some (scan_with d rest)
 decimal-scan d rest h e =
     let ds = digits_some d.whole h.whole in
     ap decimal_at (append_assoc d.whole (behind_point d.fraction) rest)
     ∙ decimal_at-text d.whole d.fraction rest ds.0 ds.1 (record { all = h.fraction }) e
 
 minus-front : (negative : Bool) (ds fs rest : List ℕ) → AreDigits ds → 0 < length ds
-    → (has_minus ((front_sign negative ++ (ds ++ fs)) ++ rest) ≡ negative) × (behind_minus ((front_sign negative ++ (ds ++ fs)) ++ rest) ≡ (ds ++ fs) ++ rest)
+    → (has_minus ((front_sign negative ++ (ds ++ fs)) ++ rest) ≡ negative)
+    × (behind_minus ((front_sign negative ++ (ds ++ fs)) ++ rest) ≡ (ds ++ fs) ++ rest)
 minus-front true ds fs rest h some = (refl, refl)
 minus-front false ds fs rest h some =
     let plain = no_minus ds (fs ++ rest) h some in
@@ -225,16 +264,19 @@ minus-front false ds fs rest h some =
     (ap has_minus grouped ∙ plain.0, ap behind_minus grouped ∙ plain.1 ∙ sym grouped)
 
 front-scan : (d : SignedDecimal) (rest : List ℕ) → IsDecimal d → ends_decimal rest ≡ true
-    → (has_minus (front_text d ++ rest) ≡ d.negative) × (decimal_at (behind_minus (front_text d ++ rest)) ≡ Some (scan_with d rest))
+    → (has_minus (front_text d ++ rest) ≡ d.negative)
+    × (decimal_at (behind_minus (front_text d ++ rest)) ≡ Some (scan_with d rest))
 front-scan d rest h e =
     let ds = digits_some d.whole h.whole in
     let minus = minus-front d.negative d.whole (behind_point d.fraction) rest ds.0 ds.1 in
     (minus.0, ap decimal_at minus.1 ∙ decimal-scan d rest h e)
 
-front-reads : (d : SignedDecimal) (rest : List ℕ) → IsDecimal d → ends_decimal rest ≡ true → number_word (front_text d ++ rest) ≡ behind_first d rest
+front-reads : (d : SignedDecimal) (rest : List ℕ) → IsDecimal d → ends_decimal rest ≡ true
+    → number_word (front_text d ++ rest) ≡ behind_first d rest
 front-reads d rest h e = let s = front-scan d rest h e in ap₂ first_part s.0 s.1
 
-front-power : (d : SignedDecimal) (rest : List ℕ) → IsDecimal d → ends_decimal rest ≡ true → is_exponential (front_text d ++ rest) ≡ is_power_mark rest
+front-power : (d : SignedDecimal) (rest : List ℕ) → IsDecimal d → ends_decimal rest ≡ true
+    → is_exponential (front_text d ++ rest) ≡ is_power_mark rest
 front-power d rest h e = ap has_power (front-scan d rest h e).1
 
 middle-ends : (negative : Bool) (rest : List ℕ) → ends_decimal (middle_sign negative ++ rest) ≡ true
@@ -245,12 +287,14 @@ middle-power : (negative : Bool) (rest : List ℕ) → is_power_mark (middle_sig
 middle-power true rest = refl
 middle-power false rest = refl
 
-middle-reads : (first : SignedDecimal) (negative : Bool) (rest : List ℕ) → behind_first first (middle_sign negative ++ rest) ≡ second_part first negative (decimal_at rest)
+middle-reads : (first : SignedDecimal) (negative : Bool) (rest : List ℕ)
+    → behind_first first (middle_sign negative ++ rest) ≡ second_part first negative (decimal_at rest)
 middle-reads first true rest = refl
 middle-reads first false rest = refl
 
 -- each form is read as itself, and is no exponent notation
-word-reads : (word : NumberWord) → IsWellFormed word → (number_word (word_text word) ≡ Some word) × (is_exponential (word_text word) ≡ false)
+word-reads : (word : NumberWord) → IsWellFormed word
+    → (number_word (word_text word) ≡ Some word) × (is_exponential (word_text word) ≡ false)
 word-reads (Rational part) h =
     let whole : front_text part ≡ front_text part ++ [] = sym (append-nil (front_text part)) in
     (ap number_word whole ∙ front-reads part [] h refl, ap is_exponential whole ∙ front-power part [] h refl)
@@ -260,7 +304,8 @@ word-reads (Both first second) h =
       front-reads first (middle_sign second.negative ++ rest) h.0 (middle-ends second.negative rest)
           ∙ middle-reads first second.negative rest
           ∙ ap (second_part first second.negative) (decimal-scan second root_mark h.1 refl),
-      front-power first (middle_sign second.negative ++ rest) h.0 (middle-ends second.negative rest) ∙ middle-power second.negative rest,
+      front-power first (middle_sign second.negative ++ rest) h.0 (middle-ends second.negative rest)
+          ∙ middle-power second.negative rest,
     )
 
 -- ---- exponent notation
@@ -278,11 +323,23 @@ power-form (b ∷ bs) h =
     elim (cases_eq b 43) [
       | inl plus ↦
           let test : ((b == 43) || (b == 45)) ≡ true = grind (arith, nat_tests) in
-          record { sign = 43 ∷ []; digits = bs; optional = inr (inl refl); some = rw test at h; written = ap (λ x. x ∷ bs) (sym plus) }
+          record {
+            sign = 43 ∷ [];
+            digits = bs;
+            optional = inr (inl refl);
+            some = rw test at h;
+            written = ap (λ x. x ∷ bs) (sym plus);
+          }
       | inr no_plus ↦ elim (cases_eq b 45) [
         | inl minus ↦
             let test : ((b == 43) || (b == 45)) ≡ true = grind (arith, nat_tests) in
-            record { sign = 45 ∷ []; digits = bs; optional = inr (inr refl); some = rw test at h; written = ap (λ x. x ∷ bs) (sym minus) }
+            record {
+              sign = 45 ∷ [];
+              digits = bs;
+              optional = inr (inr refl);
+              some = rw test at h;
+              written = ap (λ x. x ∷ bs) (sym minus);
+            }
         | inr other ↦
             let test : ((b == 43) || (b == 45)) ≡ false = grind (arith, nat_tests) in
             record { sign = []; digits = b ∷ bs; optional = inl refl; some = rw test at h; written = refl }
@@ -296,7 +353,8 @@ letter_is b h =
       | inr no_small ↦ inr (grind (arith, nat_tests))
     ]
 
-exponential-rest : (text : List ℕ) (scan : Scan) (rest : List ℕ) → scan.rest ≡ rest → IsScan (behind_minus text) scan → is_power_mark rest ≡ true → IsExponential text
+exponential-rest : (text : List ℕ) (scan : Scan) (rest : List ℕ) → scan.rest ≡ rest
+    → IsScan (behind_minus text) scan → is_power_mark rest ≡ true → IsExponential text
 exponential-rest text scan [] same s h = cc
 exponential-rest text scan (b ∷ bs) same s h =
     let parts = both_true ((b == 101) || (b == 69)) (is_power bs) h in
@@ -310,12 +368,16 @@ exponential-rest text scan (b ∷ bs) same s h =
       letter = letter_is b parts.0;
       optional = power.optional;
       some = power.some;
-      written = ap (λ t. front_text (signed_decimal (has_minus text) scan) ++ (b ∷ t)) power.written ∙ ap (λ t. front_text (signed_decimal (has_minus text) scan) ++ t) (sym same) ∙ front-is text scan s;
+      written = ap (λ t. front_text (signed_decimal (has_minus text) scan) ++ (b ∷ t)) power.written
+          ∙ ap (λ t. front_text (signed_decimal (has_minus text) scan) ++ t) (sym same)
+          ∙ front-is text scan s;
     }
 
-exponential-scan : (text : List ℕ) (o : Option Scan) → decimal_at (behind_minus text) ≡ o → has_power o ≡ true → IsExponential text
+exponential-scan : (text : List ℕ) (o : Option Scan) → decimal_at (behind_minus text) ≡ o → has_power o ≡ true
+    → IsExponential text
 exponential-scan text None scanned h = cc
-exponential-scan text (Some scan) scanned h = exponential-rest text scan scan.rest refl (decimal_at-is (behind_minus text) scan scanned) h
+exponential-scan text (Some scan) scanned h =
+    exponential-rest text scan scan.rest refl (decimal_at-is (behind_minus text) scan scanned) h
 
 exponential-form : (text : List ℕ) → is_exponential text ≡ true → IsExponential text
 exponential-form text h = exponential-scan text (decimal_at (behind_minus text)) refl h
@@ -327,14 +389,18 @@ unsigned-power (d ∷ ds) h =
     let test : ((d == 43) || (d == 45)) ≡ false = grind (arith, nat_tests) in
     rw test h
 
-power-reads : (sign digits : List ℕ) → (sign ≡ []) ⊎ (sign ≡ 43 ∷ []) ⊎ (sign ≡ 45 ∷ []) → is_digits digits ≡ true → is_power (sign ++ digits) ≡ true
+power-reads : (sign digits : List ℕ) → (sign ≡ []) ⊎ (sign ≡ 43 ∷ []) ⊎ (sign ≡ 45 ∷ [])
+    → is_digits digits ≡ true → is_power (sign ++ digits) ≡ true
 power-reads sign digits (inl none) h = ap (λ s. is_power (s ++ digits)) none ∙ unsigned-power digits h
 power-reads sign digits (inr (inl plus)) h = ap (λ s. is_power (s ++ digits)) plus ∙ h
 power-reads sign digits (inr (inr minus)) h = ap (λ s. is_power (s ++ digits)) minus ∙ h
 
-letter-ends : (b : ℕ) (rest : List ℕ) → (b ≡ 101) ⊎ (b ≡ 69) → (ends_decimal (b ∷ rest) ≡ true) × (((b == 101) || (b == 69)) ≡ true)
-letter-ends b rest (inl small) = (ap (λ x. ends_decimal (x ∷ rest)) small, ap (λ x. (x == 101) || (x == 69)) small)
-letter-ends b rest (inr capital) = (ap (λ x. ends_decimal (x ∷ rest)) capital, ap (λ x. (x == 101) || (x == 69)) capital)
+letter-ends : (b : ℕ) (rest : List ℕ) → (b ≡ 101) ⊎ (b ≡ 69)
+    → (ends_decimal (b ∷ rest) ≡ true) × (((b == 101) || (b == 69)) ≡ true)
+letter-ends b rest (inl small) =
+    (ap (λ x. ends_decimal (x ∷ rest)) small, ap (λ x. (x == 101) || (x == 69)) small)
+letter-ends b rest (inr capital) =
+    (ap (λ x. ends_decimal (x ∷ rest)) capital, ap (λ x. (x == 101) || (x == 69)) capital)
 
 exponential-reads : (text : List ℕ) → IsExponential text → is_exponential text ≡ true
 exponential-reads text h =
@@ -358,11 +424,13 @@ words_read text word h =
     let plain : is_exponential text ≡ false = ap is_exponential (sym h.1) ∙ reads.1 in
     rw (plain, found) refl
 
-no_word : (text : List ℕ) (o : Option NumberWord) → number_word text ≡ o → ((word : NumberWord) → ¬ IsWordOf text word) → word_read o ≡ Err Bad
+no_word : (text : List ℕ) (o : Option NumberWord) → number_word text ≡ o
+    → ((word : NumberWord) → ¬ IsWordOf text word) → word_read o ≡ Err Bad
 no_word text None found h = refl
 no_word text (Some word) found h = absurd (h word (number_word-form text word found))
 
-others_read : (text : List ℕ) → ¬ IsExponential text → ((word : NumberWord) → ¬ IsWordOf text word) → number_read text ≡ Err Bad
+others_read : (text : List ℕ) → ¬ IsExponential text → ((word : NumberWord) → ¬ IsWordOf text word)
+    → number_read text ≡ Err Bad
 unfolding number_read
 others_read text no_power h =
     elim (bool_cases (is_exponential text)) [

@@ -45,7 +45,16 @@ lowest_even k r even h = record {
 }
 
 pub lowest_of : (k r : ℕ) → r < 2 ^ k → Lowest k r
-lowest_of zero r below = record { places = 0; part = 0; few = omega arith; scaled = omega arith; below = lit< tt; odd = inl refl; digits = refl }
+lowest_of zero r below =
+    record {
+      places = 0;
+      part = 0;
+      few = omega arith;
+      scaled = omega arith;
+      below = lit< tt;
+      odd = inl refl;
+      digits = refl;
+    }
 lowest_of (suc k) r below =
     elim (cases_eq (r % 2) 0) [
       | inl even ↦ lowest_even k r even (lowest_of k (r / 2) (omega (arith, pow-succ' 2 k)))
@@ -65,45 +74,58 @@ pub odd_product : (m n : ℕ) → m % 2 ≡ 1 → n % 2 ≡ 1 → (m * n) % 2 �
 odd_product m n h h' = mul-mod m n 2 ∙ ap₂ (λ p q. (p * q) % 2) h h'
 
 -- no zero at the end
-pub without_zeros-padded : (places part : ℕ) → (places ≡ 0) ⊎ (part % 2 ≡ 1) → without_zeros (padded_digits places (part * 5 ^ places)) ≡ padded_digits places (part * 5 ^ places)
+pub without_zeros-padded : (places part : ℕ) → (places ≡ 0) ⊎ (part % 2 ≡ 1)
+    → without_zeros (padded_digits places (part * 5 ^ places)) ≡ padded_digits places (part * 5 ^ places)
 without_zeros-padded zero part h = refl
 without_zeros-padded (suc places) part (inl none) = absurd (omega arith)
 without_zeros-padded (suc places) part (inr odd) =
     let n = part * 5 ^ suc places in
     let n_odd : n % 2 ≡ 1 = odd_product part (5 ^ suc places) odd (five-odd (suc places)) in
     let last : 48 + n % 10 ≢ 48 = omega arith in
-    ap without_zeros (padded_digits-last places n) ∙ without_zeros-digit (padded_digits places (n / 10)) (48 + n % 10) last ∙ sym (padded_digits-last places n)
+    ap without_zeros (padded_digits-last places n)
+    ∙ without_zeros-digit (padded_digits places (n / 10)) (48 + n % 10) last
+    ∙ sym (padded_digits-last places n)
 
 times_below : (m n p : ℕ) → m < n → 0 < p → m * p < n * p
 times_below m n p h h' = omega (arith, mul-le (m + 1) p n p (omega arith) (omega arith))
 
 scaled_below : (places part : ℕ) → part < 2 ^ places → part * 5 ^ places < 10 ^ places
-scaled_below places part below = omega (arith, mul-pow 2 5 places, times_below part (2 ^ places) (5 ^ places) below (five_positive places))
+scaled_below places part below =
+    omega (arith, mul-pow 2 5 places, times_below part (2 ^ places) (5 ^ places) below (five_positive places))
 
-pub value_padded : (places part : ℕ) → part < 2 ^ places → digits_value 0 (padded_digits places (part * 5 ^ places)) ≡ part * 5 ^ places
+pub value_padded : (places part : ℕ) → part < 2 ^ places
+    → digits_value 0 (padded_digits places (part * 5 ^ places)) ≡ part * 5 ^ places
 value_padded places part below =
-    digits_value-padded 0 places (part * 5 ^ places) ∙ omega (arith, mod-eq_of_lt (scaled_below places part below))
+    digits_value-padded 0 places (part * 5 ^ places)
+    ∙ omega (arith, mod-eq_of_lt (scaled_below places part below))
 
-pub exact_from : (digits : List ℕ) (places part : ℕ) → length digits ≡ places → digits_value 0 digits ≡ part * 5 ^ places → places ≤ 16 → exact_parts digits ≡ Some (part * 2 ^ (16 - places))
+pub exact_from : (digits : List ℕ) (places part : ℕ) → length digits ≡ places
+    → digits_value 0 digits ≡ part * 5 ^ places → places ≤ 16
+    → exact_parts digits ≡ Some (part * 2 ^ (16 - places))
 exact_from digits places part len val few =
     let multiple : (part * 5 ^ places) % 5 ^ places ≡ 0 = mul-mod_left part (5 ^ places) in
     let quotient : part * 5 ^ places / 5 ^ places ≡ part = mul-div_cancel part (five_positive places) in
     rw (len, val, multiple, quotient) (grind (arith, nat_tests))
 
-pub fraction_parts-padded : (places part : ℕ) → part < 2 ^ places → (places ≡ 0) ⊎ (part % 2 ≡ 1) → places ≤ 16 → fraction_parts (padded_digits places (part * 5 ^ places)) ≡ Some (part * 2 ^ (16 - places))
+pub fraction_parts-padded : (places part : ℕ) → part < 2 ^ places → (places ≡ 0) ⊎ (part % 2 ≡ 1)
+    → places ≤ 16 → fraction_parts (padded_digits places (part * 5 ^ places))
+    ≡ Some (part * 2 ^ (16 - places))
 fraction_parts-padded places part below odd few =
     ap exact_parts (without_zeros-padded places part odd)
-    ∙ exact_from (padded_digits places (part * 5 ^ places)) places part (length-padded_digits places (part * 5 ^ places)) (value_padded places part below) few
+    ∙ exact_from (padded_digits places (part * 5 ^ places)) places part
+    (length-padded_digits places (part * 5 ^ places)) (value_padded places part below) few
 
 -- the digits of r / 2^k are r / 2^k
-pub fraction_parts-digits : (k r : ℕ) → r < 2 ^ k → k ≤ 16 → fraction_parts (fraction_digits k r) ≡ Some (r * 2 ^ (16 - k))
+pub fraction_parts-digits : (k r : ℕ) → r < 2 ^ k → k ≤ 16
+    → fraction_parts (fraction_digits k r) ≡ Some (r * 2 ^ (16 - k))
 fraction_parts-digits k r below few =
     let l = lowest_of k r below in
     let power : 2 ^ (16 - l.places) ≡ 2 ^ (k - l.places) * 2 ^ (16 - k) =
     ap (λ j. 2 ^ j) (places_split k l.places l.few few) ∙ pow-add 2 (k - l.places) (16 - k) in
     ap fraction_parts l.digits
     ∙ fraction_parts-padded l.places l.part l.below l.odd (omega (arith, l.few))
-    ∙ ap Some (ap (λ m. l.part * m) power ∙ regrouped l.part (2 ^ (k - l.places)) (2 ^ (16 - k)) ∙ ap (λ m. m * 2 ^ (16 - k)) l.scaled)
+    ∙ ap Some (ap (λ m. l.part * m) power ∙ regrouped l.part (2 ^ (k - l.places)) (2 ^ (16 - k))
+    ∙ ap (λ m. m * 2 ^ (16 - k)) l.scaled)
   where
     places_split : (k places : ℕ) → places ≤ k → k ≤ 16 → 16 - places ≡ (k - places) + (16 - k)
     places_split k places h h' = omega arith

@@ -25,29 +25,36 @@ after_some (b ∷ bs) words some = refl
 
 -- ---- from a line put together to its words
 
-blanks_first : (blanks rest : List ℕ) → are_blanks blanks ≡ true → words_from [] (blanks ++ rest) ≡ words_from [] rest
+blanks_first : (blanks rest : List ℕ) → are_blanks blanks ≡ true
+    → words_from [] (blanks ++ rest) ≡ words_from [] rest
 blanks_first [] rest h = refl
 blanks_first (b ∷ bs) rest h =
     let parts = both_true (is_blank b) (list_all is_blank bs) h in
     let first : is_blank b ≡ true = parts.0 in
     rw first (blanks_first bs rest parts.1)
 
-plain_first : (word more rest : List ℕ) → has_no_blank more ≡ true → words_from word (more ++ rest) ≡ words_from (word ++ more) rest
+plain_first : (word more rest : List ℕ) → has_no_blank more ≡ true
+    → words_from word (more ++ rest) ≡ words_from (word ++ more) rest
 plain_first word [] rest h = ap (λ w. words_from w rest) (sym (append-nil word))
 plain_first word (b ∷ bs) rest h =
     let parts = both_true (not (is_blank b)) (has_no_blank bs) h in
     let first : is_blank b ≡ false = not_true (is_blank b) parts.0 in
-    rw first (plain_first (word ++ b ∷ []) bs rest parts.1 ∙ ap (λ w. words_from w rest) (append_assoc word (b ∷ []) bs))
+    rw first (plain_first (word ++ b ∷ []) bs rest parts.1
+    ∙ ap (λ w. words_from w rest) (append_assoc word (b ∷ []) bs))
 
-word_ended : (word blanks : List ℕ) (next : List Spaced) → word ≢ [] → are_blanks blanks ≡ true → (blanks ≡ [] → next ≡ [])
+word_ended : (word blanks : List ℕ) (next : List Spaced) → word ≢ [] → are_blanks blanks ≡ true
+    → (blanks ≡ [] → next ≡ [])
     → words_from word (blanks ++ spaced_text next) ≡ word ∷ words_from [] (spaced_text next)
-word_ended word [] next some h parted = let last : next ≡ [] = parted refl in rw last (after_some word [] some)
+word_ended word [] next some h parted =
+    let last : next ≡ [] = parted refl in rw last (after_some word [] some)
 word_ended word (b ∷ bs) next some h parted =
     let parts = both_true (is_blank b) (list_all is_blank bs) h in
     let first : is_blank b ≡ true = parts.0 in
-    rw first (after_some word (words_from [] (bs ++ spaced_text next)) some ∙ ap (λ ws. word ∷ ws) (blanks_first bs (spaced_text next) parts.1))
+    rw first (after_some word (words_from [] (bs ++ spaced_text next)) some
+    ∙ ap (λ ws. word ∷ ws) (blanks_first bs (spaced_text next) parts.1))
 
-spaced_words : (spaced : List Spaced) → AreSpaced spaced → words_from [] (spaced_text spaced) ≡ map (λ (s : Spaced). s.word) spaced
+spaced_words : (spaced : List Spaced) → AreSpaced spaced
+    → words_from [] (spaced_text spaced) ≡ map (λ (s : Spaced). s.word) spaced
 spaced_words [] h = refl
 spaced_words (s ∷ next) h =
     plain_first [] s.word (s.blanks ++ spaced_text next) h.0.plain
@@ -57,7 +64,14 @@ spaced_words (s ∷ next) h =
 -- ---- from a line to how it is put together
 
 word_alone : (word : List ℕ) → has_no_blank word ≡ true → IsLineOf (word ++ []) (after_word word [])
-word_alone [] h = record { front = []; spaced = []; blanks = refl; parted = tt; written = refl; words_are = refl }
+word_alone [] h = record {
+  front = [];
+  spaced = [];
+  blanks = refl;
+  parted = tt;
+  written = refl;
+  words_are = refl;
+}
 word_alone (b ∷ bs) h = record {
   front = [];
   spaced = record { word = b ∷ bs; blanks = [] } ∷ [];
@@ -67,7 +81,8 @@ word_alone (b ∷ bs) h = record {
   words_are = refl;
 }
 
-blank_more : (word : List ℕ) (b : ℕ) (bs : List ℕ) (words : List (List ℕ)) → has_no_blank word ≡ true → is_blank b ≡ true → IsLineOf bs words → IsLineOf (word ++ (b ∷ bs)) (after_word word words)
+blank_more : (word : List ℕ) (b : ℕ) (bs : List ℕ) (words : List (List ℕ)) → has_no_blank word ≡ true
+    → is_blank b ≡ true → IsLineOf bs words → IsLineOf (word ++ (b ∷ bs)) (after_word word words)
 blank_more [] b bs words h blank l = record {
   front = b ∷ l.front;
   spaced = l.spaced;
@@ -80,12 +95,21 @@ blank_more (w ∷ ws) b bs words h blank l = record {
   front = [];
   spaced = record { word = w ∷ ws; blanks = b ∷ l.front } ∷ l.spaced;
   blanks = refl;
-  parted = (record { some = some_not_none w ws; plain = h; blanks = ap₂ (λ p q. p && q) blank l.blanks; parted = λ e. absurd (some_not_none b l.front e) }, l.parted);
+  parted = (
+    record {
+      some = some_not_none w ws;
+      plain = h;
+      blanks = ap₂ (λ p q. p && q) blank l.blanks;
+      parted = λ e. absurd (some_not_none b l.front e);
+    },
+    l.parted,
+  );
   written = ap (λ t. (w ∷ ws) ++ (b ∷ t)) l.written;
   words_are = ap (λ t. (w ∷ ws) ∷ t) l.words_are;
 }
 
-plain_more : (word : List ℕ) (b : ℕ) → has_no_blank word ≡ true → is_blank b ≡ false → has_no_blank (word ++ b ∷ []) ≡ true
+plain_more : (word : List ℕ) (b : ℕ) → has_no_blank word ≡ true → is_blank b ≡ false
+    → has_no_blank (word ++ b ∷ []) ≡ true
 plain_more word b h plain =
     let last : has_no_blank (b ∷ []) ≡ true = rw plain refl in
     list_all-append (λ c. not (is_blank c)) word (b ∷ []) ∙ ap₂ (λ p q. p && q) h last
@@ -97,13 +121,15 @@ parted_from word (b ∷ bs) h =
       | inl blank ↦ rw blank (blank_more word b bs (words_from [] bs) h blank (parted_from [] bs refl))
       | inr plain ↦
           let P : List ℕ → Type 0 = λ line. IsLineOf line (words_from (word ++ b ∷ []) bs) in
-          rw plain (subst P (append_assoc word (b ∷ []) bs) (parted_from (word ++ b ∷ []) bs (plain_more word b h plain)))
+          rw plain (subst P (append_assoc word (b ∷ []) bs)
+          (parted_from (word ++ b ∷ []) bs (plain_more word b h plain)))
     ]
 
 pub words_are_parted_by_blanks : WordsArePartedByBlanks
 words_are_parted_by_blanks line words = (
   (λ e. subst (IsLineOf line) e (parted_from [] line refl)),
-  (λ l. ap words_of (sym l.written) ∙ blanks_first l.front (spaced_text l.spaced) l.blanks ∙ spaced_words l.spaced l.parted ∙ l.words_are),
+  (λ l. ap words_of (sym l.written) ∙ blanks_first l.front (spaced_text l.spaced) l.blanks
+      ∙ spaced_words l.spaced l.parted ∙ l.words_are),
 )
 
 -- ---- lines
@@ -112,28 +138,41 @@ if_any : (bytes : List ℕ) → after_word bytes [] ≡ line_if_any bytes
 if_any [] = refl
 if_any (b ∷ bs) = refl
 
-no_feed_first : (line more rest : List ℕ) → has_no_feed more ≡ true → lines_from line (more ++ rest) ≡ lines_from (line ++ more) rest
+no_feed_first : (line more rest : List ℕ) → has_no_feed more ≡ true
+    → lines_from line (more ++ rest) ≡ lines_from (line ++ more) rest
 no_feed_first line [] rest h = ap (λ l. lines_from l rest) (sym (append-nil line))
 no_feed_first line (b ∷ bs) rest h =
     let parts = both_true (not (b == 10)) (has_no_feed bs) h in
     let first : (b == 10) ≡ false = not_true (b == 10) parts.0 in
-    rw first (no_feed_first (line ++ b ∷ []) bs rest parts.1 ∙ ap (λ l. lines_from l rest) (append_assoc line (b ∷ []) bs))
+    rw first (no_feed_first (line ++ b ∷ []) bs rest parts.1
+    ∙ ap (λ l. lines_from l rest) (append_assoc line (b ∷ []) bs))
 
-fed_lines : (fed : List (List ℕ)) (last : List ℕ) → list_all has_no_feed fed ≡ true → has_no_feed last ≡ true → lines_from [] (fed_text fed ++ last) ≡ fed ++ line_if_any last
-fed_lines [] last h h' = ap (lines_from []) (sym (append-nil last)) ∙ no_feed_first [] last [] h' ∙ if_any last
+fed_lines : (fed : List (List ℕ)) (last : List ℕ) → list_all has_no_feed fed ≡ true → has_no_feed last ≡ true
+    → lines_from [] (fed_text fed ++ last) ≡ fed ++ line_if_any last
+fed_lines [] last h h' =
+    ap (lines_from []) (sym (append-nil last)) ∙ no_feed_first [] last [] h' ∙ if_any last
 fed_lines (line ∷ lines) last h h' =
     let parts = both_true (has_no_feed line) (list_all has_no_feed lines) h in
     ap (lines_from []) (append_assoc line (10 ∷ fed_text lines) last)
     ∙ no_feed_first [] line (10 ∷ (fed_text lines ++ last)) parts.0
     ∙ ap (λ ls. line ∷ ls) (fed_lines lines last parts.1 h')
 
-no_feed_more : (line : List ℕ) (b : ℕ) → has_no_feed line ≡ true → (b == 10) ≡ false → has_no_feed (line ++ b ∷ []) ≡ true
+no_feed_more : (line : List ℕ) (b : ℕ) → has_no_feed line ≡ true → (b == 10) ≡ false
+    → has_no_feed (line ++ b ∷ []) ≡ true
 no_feed_more line b h plain =
     let last : has_no_feed (b ∷ []) ≡ true = rw plain refl in
     list_all-append (λ c. not (c == 10)) line (b ∷ []) ∙ ap₂ (λ p q. p && q) h last
 
 fed_from : (line bytes : List ℕ) → has_no_feed line ≡ true → IsTextOf (line ++ bytes) (lines_from line bytes)
-fed_from line [] h = record { fed = []; last = line; fed_lines = refl; last_line = h; written = sym (append-nil line); lines_are = sym (if_any line) }
+fed_from line [] h =
+    record {
+      fed = [];
+      last = line;
+      fed_lines = refl;
+      last_line = h;
+      written = sym (append-nil line);
+      lines_are = sym (if_any line);
+    }
 fed_from line (b ∷ bs) h =
     elim (cases_eq b 10) [
       | inl feed ↦
@@ -144,13 +183,15 @@ fed_from line (b ∷ bs) h =
             last = rest.last;
             fed_lines = ap₂ (λ p q. p && q) h rest.fed_lines;
             last_line = rest.last_line;
-            written = append_assoc line (10 ∷ fed_text rest.fed) rest.last ∙ ap₂ (λ x t. line ++ (x ∷ t)) (sym feed) rest.written;
+            written = append_assoc line (10 ∷ fed_text rest.fed) rest.last
+                ∙ ap₂ (λ x t. line ++ (x ∷ t)) (sym feed) rest.written;
             lines_are = ap (λ ls. line ∷ ls) rest.lines_are;
           })
       | inr other ↦
           let plain : (b == 10) ≡ false = grind (arith, nat_tests) in
           let P : List ℕ → Type 0 = λ t. IsTextOf t (lines_from (line ++ b ∷ []) bs) in
-          rw plain (subst P (append_assoc line (b ∷ []) bs) (fed_from (line ++ b ∷ []) bs (no_feed_more line b h plain)))
+          rw plain (subst P (append_assoc line (b ∷ []) bs)
+          (fed_from (line ++ b ∷ []) bs (no_feed_more line b h plain)))
     ]
 
 slice_index-last : (line : List ℕ) (b : ℕ) → slice_index (line ++ b ∷ []) (length line) ≡ b
@@ -170,7 +211,9 @@ not_returned (b ∷ bs) h =
       | inl last ↦
           let n = length (b ∷ bs) in
           let parted = take_last n (b ∷ bs) (omega arith) (omega arith) in
-          absurd (h (take (n - 1) (b ∷ bs)) (sym (take_all n (b ∷ bs) (omega arith)) ∙ parted ∙ ap (λ x. take (n - 1) (b ∷ bs) ++ x ∷ []) last))
+          absurd (h (take (n - 1) (b ∷ bs))
+          (sym (take_all n (b ∷ bs) (omega arith)) ∙ parted
+          ∙ ap (λ x. take (n - 1) (b ∷ bs) ++ x ∷ []) last))
       | inr other ↦
           let test : (slice_index (b ∷ bs) (length (b ∷ bs) - 1) == 13) ≡ false = grind (arith, nat_tests) in
           rw test refl

@@ -29,11 +29,14 @@ PatternsReadBack = (p : PatternView) → map line_read (lines_of (pattern_text p
 
 -- the lines of a pattern's text are the texts of its lines, whatever follows it
 abbrev pub PatternsArePartedByLines : Type 0
-PatternsArePartedByLines = (p : PatternView) (rest : List ℕ) → bare_lines (pattern_text p ++ rest) ≡ map line_body (pattern_lines p) ++ bare_lines rest
+PatternsArePartedByLines =
+    (p : PatternView) (rest : List ℕ)
+    → bare_lines (pattern_text p ++ rest) ≡ map line_body (pattern_lines p) ++ bare_lines rest
 
 -- the words of a line are those of which it is put together with runs of spaces and tabs
 abbrev pub WordsArePartedByBlanks : Type 0
-WordsArePartedByBlanks = (line : List ℕ) (words : List (List ℕ)) → (words_of line ≡ words) ↔ IsLineOf line words
+WordsArePartedByBlanks =
+    (line : List ℕ) (words : List (List ℕ)) → (words_of line ≡ words) ↔ IsLineOf line words
 
 -- the lines of a text are those of which it is put together with line feeds; one carriage return at the end of a line
 -- goes, and nothing else does

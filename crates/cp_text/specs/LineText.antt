@@ -56,7 +56,8 @@ line_of_auxiliary s = crease_line (auxiliary_line s)
 
 -- the sides of the sheet, the pieces and the auxiliary lines, each in order
 abbrev pub pattern_lines : PatternView → List CpLine
-pattern_lines p = map line_of_side (sides_of p.corners) ++ map line_of_piece p.pieces ++ map line_of_auxiliary p.aux
+pattern_lines p = map line_of_side (sides_of p.corners) ++ map line_of_piece p.pieces
+    ++ map line_of_auxiliary p.aux
 
 abbrev pub lines_text : List CpLine → List ℕ
 lines_text lines = flat_map line_text lines

@@ -40,7 +40,8 @@ root_mark = codes "r2"
 abbrev pub word_text : NumberWord → List ℕ
 word_text (Rational part) = front_text part
 word_text (Root part) = front_text part ++ root_mark
-word_text (Both first second) = front_text first ++ (middle_sign second.negative ++ (decimal_text second ++ root_mark))
+word_text (Both first second) =
+    front_text first ++ (middle_sign second.negative ++ (decimal_text second ++ root_mark))
 
 -- this text is this number word
 abbrev pub IsWordOf : List ℕ → NumberWord → Type 0
@@ -62,4 +63,5 @@ pub record IsExponential (text : List ℕ) : Type 0 where
 pub record ReadsByTheGrammar : Type 0 where
   pub exponents : (text : List ℕ) → IsExponential text → number_read text ≡ Err NotExact
   pub words : (text : List ℕ) (word : NumberWord) → IsWordOf text word → number_read text ≡ word_value word
-  pub others : (text : List ℕ) → ¬ IsExponential text → ((word : NumberWord) → ¬ IsWordOf text word) → number_read text ≡ Err Bad
+  pub others : (text : List ℕ) → ¬ IsExponential text → ((word : NumberWord) → ¬ IsWordOf text word)
+      → number_read text ≡ Err Bad

@@ -6,7 +6,8 @@ use Rattle.cp_text.specs.Digits.{padded_digits}
 -- The digits of r / 2^k, a fraction below 1. In lowest terms it has exactly k of them: those of r * 5^k.
 abbrev pub fraction_digits : ℕ → ℕ → List ℕ
 fraction_digits zero r = []
-fraction_digits (suc k) r = if r % 2 == 0 then fraction_digits k (r / 2) else padded_digits (suc k) (r * 5 ^ suc k)
+fraction_digits (suc k) r =
+    if r % 2 == 0 then fraction_digits k (r / 2) else padded_digits (suc k) (r * 5 ^ suc k)
 
 -- digits behind a point, and no point where there are none
 abbrev pub behind_point : List ℕ → List ℕ

@@ -49,7 +49,8 @@ is_root_mark text = bytes_eq text (codes "r2")
 -- the second decimal, with `r2` behind it
 abbrev pub second_part : SignedDecimal → Bool → Option Scan → Option NumberWord
 second_part first negative None = None
-second_part first negative (Some scan) = if is_root_mark scan.rest then Some (Both first (signed_decimal negative scan)) else None
+second_part first negative (Some scan) =
+    if is_root_mark scan.rest then Some (Both first (signed_decimal negative scan)) else None
 
 -- what may stand behind the first decimal: nothing, `r2`, or a sign and the second part
 abbrev pub behind_first : SignedDecimal → List ℕ → Option NumberWord

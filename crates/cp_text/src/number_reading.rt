@@ -140,7 +140,8 @@ struct Scanned<'a> {
 
 fn scan_fraction<'a>(whole: &'a [u8], text: &'a [u8]) -> Option<Scanned<'a>>
     ensures { let scan = with_fraction whole.now (leading_digits text.now) (behind_digits text.now) in
-        MatchOption result (scan ≡ None) (λ s. scan ≡ Some (record { whole = s.whole.now; fraction = s.fraction.now; rest = s.rest.now })) }
+        MatchOption result (scan ≡ None)
+        (λ s. scan ≡ Some (record { whole = s.whole.now; fraction = s.fraction.now; rest = s.rest.now })) }
 {
     let end = digits_len(text);
     if end == 0 {
@@ -155,7 +156,8 @@ fn scan_fraction<'a>(whole: &'a [u8], text: &'a [u8]) -> Option<Scanned<'a>>
 
 fn scan_behind_whole<'a>(whole: &'a [u8], text: &'a [u8]) -> Option<Scanned<'a>>
     ensures { let scan = behind_whole whole.now text.now in
-        MatchOption result (scan ≡ None) (λ s. scan ≡ Some (record { whole = s.whole.now; fraction = s.fraction.now; rest = s.rest.now })) }
+        MatchOption result (scan ≡ None)
+        (λ s. scan ≡ Some (record { whole = s.whole.now; fraction = s.fraction.now; rest = s.rest.now })) }
 {
     match text {
         [b'.', behind @ ..] => scan_fraction(whole, behind),
@@ -169,7 +171,8 @@ fn scan_behind_whole<'a>(whole: &'a [u8], text: &'a [u8]) -> Option<Scanned<'a>>
 
 fn scan_decimal(text: &[u8]) -> Option<Scanned<'_>>
     ensures { let scan = decimal_at text.now in
-        MatchOption result (scan ≡ None) (λ s. scan ≡ Some (record { whole = s.whole.now; fraction = s.fraction.now; rest = s.rest.now })) }
+        MatchOption result (scan ≡ None)
+        (λ s. scan ≡ Some (record { whole = s.whole.now; fraction = s.fraction.now; rest = s.rest.now })) }
 {
     let digits = digits_len(text);
     if digits == 0 {
@@ -204,7 +207,12 @@ fn with_sign(negative: bool, n: u64) -> i64
 
 #[tactic(auto, using(crate::proofs::Bounds::signed_bounded))]
 fn read_part(part: &Part<'_>) -> Option<i64>
-    ensures { result ≡ option_map bounded (decimal_parts (record { negative = part.now.negative; whole = part.now.whole.now; fraction = part.now.fraction.now })) }
+    ensures { result ≡ option_map bounded
+        (decimal_parts (record {
+          negative = part.now.negative;
+          whole = part.now.whole.now;
+          fraction = part.now.fraction.now;
+        })) }
 {
     match read_fraction(part.fraction) {
         Some(parts) => Some(with_sign(part.negative, bounded_parts(part.whole, parts))),

@@ -21,7 +21,8 @@ struct Fraction {
 
 fn lowest_terms(part: u64, places: u8) -> Fraction
     requires { part < 2 ^ places }
-    ensures digits { fraction_digits places part ≡ padded_digits result.places (result.part * 5 ^ result.places) }
+    ensures digits { fraction_digits places part
+        ≡ padded_digits result.places (result.part * 5 ^ result.places) }
     ensures below { result.part < 2 ^ result.places }
     ensures few { result.places ≤ places }
 {

@@ -55,7 +55,8 @@ pub fn next_word(line: &[u8]) -> Option<(&[u8], &[u8])>
 /// Where the first line of a text ends.
 fn line_end(text: &[u8]) -> usize
     ensures bound { result ≤ length text.now }
-    ensures feed { result < length text.now → lines_of text.now ≡ take result text.now ∷ lines_of (drop (result + 1) text.now) }
+    ensures feed { result < length text.now
+        → lines_of text.now ≡ take result text.now ∷ lines_of (drop (result + 1) text.now) }
     ensures last { result ≡ length text.now → lines_of text.now ≡ after_word text.now [] }
 {
     for (i, b) in text.iter().enumerate() {

@@ -77,7 +77,8 @@ pub fn write_line(out: &mut Vec<u8>, line: &CpLine) -> Result<(), AllocError>
 
 #[tactic(auto, using(crate::proofs::Fronts::fronts))]
 fn put_sides(out: &mut Vec<u8>, corners: &[Point]) -> Result<(), AllocError>
-    ensures ok { OnOk result (out.new.items ≡ out.old.items ++ lines_text (map line_of_side (sides_of corners.now))) }
+    ensures ok { OnOk result
+        (out.new.items ≡ out.old.items ++ lines_text (map line_of_side (sides_of corners.now))) }
     ensures err { OnErr result (KeepsFront out.old.items out.new.items) }
 {
     for (i, from) in corners.iter().enumerate() {

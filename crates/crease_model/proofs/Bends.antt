@@ -23,20 +23,24 @@ length-bends before (d ∷ ds) = ap suc (length-bends d ds)
 abbrev bend_of : Option ℕ → Option ℕ → Bend
 bend_of before after = record { before = before; after = after }
 
-first_bend : (before d : Option ℕ) (ds : List (Option ℕ)) → slice_get (bends_from before (d ∷ ds)) 0 ≡ Some (bend_of before d)
+first_bend : (before d : Option ℕ) (ds : List (Option ℕ))
+    → slice_get (bends_from before (d ∷ ds)) 0 ≡ Some (bend_of before d)
 first_bend before d ds = refl
 
-later_bend : (before : Option ℕ) (ds : List (Option ℕ)) (k : ℕ) → suc k < length ds → slice_get (bends_from before ds) (suc k) ≡ Some (bend_of (get_or ds k None) (get_or ds (suc k) None))
+later_bend : (before : Option ℕ) (ds : List (Option ℕ)) (k : ℕ) → suc k < length ds
+    → slice_get (bends_from before ds) (suc k) ≡ Some (bend_of (get_or ds k None) (get_or ds (suc k) None))
 later_bend before [] k few = absurd (omega arith)
 later_bend before (d ∷ []) k few = absurd (omega arith)
 later_bend before (d ∷ e ∷ ds) zero few = refl
 later_bend before (d ∷ e ∷ ds) (suc k) few = later_bend d (e ∷ ds) k (omega arith)
 
-last_at : (o d : Option ℕ) (ds : List (Option ℕ)) → last_direction o (d ∷ ds) ≡ get_or (d ∷ ds) (length ds) None
+last_at : (o d : Option ℕ) (ds : List (Option ℕ))
+    → last_direction o (d ∷ ds) ≡ get_or (d ∷ ds) (length ds) None
 last_at o d [] = refl
 last_at o d (e ∷ ds) = last_at d e ds
 
-at_place : (ds : List (Option ℕ)) (k : ℕ) → k < length ds → slice_get (bends_from (last_direction None ds) ds) k ≡ Some (bend_at ds k)
+at_place : (ds : List (Option ℕ)) (k : ℕ) → k < length ds
+    → slice_get (bends_from (last_direction None ds) ds) k ≡ Some (bend_at ds k)
 at_place [] k few = absurd (omega arith)
 at_place (d ∷ ds) zero few =
     let end : length ds ≡ length (d ∷ ds) - 1 = omega arith in
@@ -46,6 +50,7 @@ at_place (d ∷ ds) (suc k) few =
 
 pub bends_are_neighbours : BendsAreNeighbours
 bends_are_neighbours corners = (
-  length-bends (last_direction None (side_directions corners)) (side_directions corners) ∙ length-directions corners,
+  length-bends (last_direction None (side_directions corners)) (side_directions corners)
+      ∙ length-directions corners,
   λ k few. at_place (side_directions corners) k (omega (arith, few, length-directions corners)),
 )

@@ -6,12 +6,16 @@ use Rattle.plane_geometry.specs.Direction.{direction_of}
 use Rattle.plane_geometry.specs.Polygon.{side_direction, sides_from}
 use Rattle.crease_model.specs.NewSheet.{last_direction, side_directions}
 
-last_from : (f p d : Point) (ps : List Point) (o : Option ℕ) → last_direction o (map side_direction (sides_from f (p ∷ ps))) ≡ direction_of (position_of (get_or (p ∷ ps) (length ps) d)) (position_of f)
+last_from : (f p d : Point) (ps : List Point) (o : Option ℕ)
+    → last_direction o (map side_direction (sides_from f (p ∷ ps)))
+    ≡ direction_of (position_of (get_or (p ∷ ps) (length ps) d)) (position_of f)
 last_from f p d [] o = refl
 last_from f p d (q ∷ []) o = last_from f q d [] (direction_of (position_of p) (position_of q))
 last_from f p d (q ∷ r ∷ rs) o = last_from f q d (r ∷ rs) (direction_of (position_of p) (position_of q))
 
-pub last_side : (corners : List Point) (p q : Point) → 0 < length corners → p ≡ get_or corners (length corners - 1) p → q ≡ get_or corners 0 q → last_direction None (side_directions corners) ≡ direction_of (position_of p) (position_of q)
+pub last_side : (corners : List Point) (p q : Point) → 0 < length corners
+    → p ≡ get_or corners (length corners - 1) p → q ≡ get_or corners 0 q
+    → last_direction None (side_directions corners) ≡ direction_of (position_of p) (position_of q)
 last_side [] p q few e g = absurd (omega arith)
 last_side (f ∷ ps) p q few e g =
     let last : p ≡ get_or (f ∷ ps) (length ps) p = e ∙ ap (λ k. get_or (f ∷ ps) k p) (omega arith) in

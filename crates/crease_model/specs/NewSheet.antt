@@ -58,7 +58,8 @@ turn_fault turns = if nat_eq turns 16 then None else Some 0
 
 -- what keeps the corners from being those of a sheet: the number of the first bad one from 1, or else the turns
 abbrev pub sheet_fault : List Point → Option ℕ
-sheet_fault corners = option_or (first_bad 1 (bends_of corners)) (turn_fault (sum (map bend_turn (bends_of corners))))
+sheet_fault corners =
+    option_or (first_bad 1 (bends_of corners)) (turn_fault (sum (map bend_turn (bends_of corners))))
 
 -- how many corners stand before the first least one
 abbrev pub least_place : List Point → ℕ

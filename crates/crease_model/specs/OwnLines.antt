@@ -30,4 +30,5 @@ auxiliary_line s = segment_line Aux s
 
 -- the sides of the sheet as edges, the pieces and the auxiliary lines, each in order
 abbrev pub own_lines : PatternView → List PlainLine
-own_lines pattern = map side_line (sides_of pattern.corners) ++ (map piece_line pattern.pieces ++ map auxiliary_line pattern.aux)
+own_lines pattern = map side_line (sides_of pattern.corners)
+    ++ (map piece_line pattern.pieces ++ map auxiliary_line pattern.aux)

@@ -26,12 +26,14 @@ is_on_sheet corners s = not (is_outside (place_of corners s.from)) && not (is_ou
 -- a mountain or a valley with no end outside, and not within one side
 abbrev pub is_crease : List Point → Piece → Bool
 is_crease corners p =
-    is_crease_kind p.kind && (is_on_sheet corners (stretch_of p.segment) && not (is_within_side corners (stretch_of p.segment)))
+    is_crease_kind p.kind
+    && (is_on_sheet corners (stretch_of p.segment) && not (is_within_side corners (stretch_of p.segment)))
 
 -- each two pieces meet at ends alone
 abbrev pub AllMeetAtEnds : List Piece → Type 0
 AllMeetAtEnds [] = ⊤
-AllMeetAtEnds (p ∷ ps) = AllByRecursion (λ q. MeetAtEnds (stretch_of p.segment) (stretch_of q.segment)) ps × AllMeetAtEnds ps
+AllMeetAtEnds (p ∷ ps) =
+    AllByRecursion (λ q. MeetAtEnds (stretch_of p.segment) (stretch_of q.segment)) ps × AllMeetAtEnds ps
 
 -- each segment stands before the next, by the lesser end and then by the greater
 abbrev pub is_ascending : List Segment → Bool

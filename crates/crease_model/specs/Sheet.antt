@@ -31,7 +31,9 @@ is_on_segment p (Some s) = is_on p (stretch_of s)
 
 -- both ends of s are on the side
 abbrev pub holds_both_ends : Stretch → Side → Bool
-holds_both_ends s side = is_on_segment s.from (segment_of side.start side.end) && is_on_segment s.to (segment_of side.start side.end)
+holds_both_ends s side =
+    is_on_segment s.from (segment_of side.start side.end)
+    && is_on_segment s.to (segment_of side.start side.end)
 
 -- both ends on one side
 abbrev pub is_within_side : List Point → Stretch → Bool

@@ -20,7 +20,9 @@ fn turn(before: Dir, after: Dir) -> u8
 fn turn_at(before: Option<Dir>, after: Option<Dir>) -> Option<u8>
     ensures { MatchOption result
         (IsTrue (is_bad_turn (option_map dir_number before) (option_map dir_number after)))
-        (λ turn. IsFalse (is_bad_turn (option_map dir_number before) (option_map dir_number after)) × (turn ≡ turn_between (option_map dir_number before) (option_map dir_number after)) × (turn ≤ 7)) }
+        (λ turn. IsFalse (is_bad_turn (option_map dir_number before) (option_map dir_number after))
+        × (turn ≡ turn_between (option_map dir_number before) (option_map dir_number after))
+        × (turn ≤ 7)) }
 {
     match (before, after) {
         (_, None) => None,

@@ -191,7 +191,8 @@ impl Model for Pattern {
 
     ghost view = { λ p. record { corners = p.sheet; pieces = p.pieces.items; aux = p.aux.items } };
 
-    ghost invariant = { λ p. IsPattern (record { corners = p.sheet; pieces = p.pieces.items; aux = p.aux.items }) };
+    ghost invariant = { λ p. IsPattern
+        (record { corners = p.sheet; pieces = p.pieces.items; aux = p.aux.items }) };
 }
 
 impl Pattern {
@@ -255,8 +256,14 @@ impl Pattern {
 
     /// The pattern of these pieces, on an equal sheet and with equal auxiliary lines.
     pub fn with_pieces(&self, pieces: Vec<Piece>) -> Result<Pattern, AllocError>
-        requires { IsPattern (record { corners = self.now.corners; pieces = pieces.items; aux = self.now.aux }) }
-        ensures { IfOk result (λ pattern. pattern ≡ record { corners = self.now.corners; pieces = pieces.items; aux = self.now.aux }) }
+        requires { IsPattern
+            (record { corners = self.now.corners; pieces = pieces.items; aux = self.now.aux }) }
+        ensures { IfOk result
+            (λ pattern. pattern ≡ record {
+              corners = self.now.corners;
+              pieces = pieces.items;
+              aux = self.now.aux;
+            }) }
     {
         Ok(Pattern {
             sheet: self.sheet.copy()?,
@@ -267,8 +274,14 @@ impl Pattern {
 
     /// The pattern of these auxiliary lines, on an equal sheet and with equal pieces.
     pub fn with_aux(&self, aux: Vec<Segment>) -> Result<Pattern, AllocError>
-        requires { IsPattern (record { corners = self.now.corners; pieces = self.now.pieces; aux = aux.items }) }
-        ensures { IfOk result (λ pattern. pattern ≡ record { corners = self.now.corners; pieces = self.now.pieces; aux = aux.items }) }
+        requires { IsPattern
+            (record { corners = self.now.corners; pieces = self.now.pieces; aux = aux.items }) }
+        ensures { IfOk result
+            (λ pattern. pattern ≡ record {
+              corners = self.now.corners;
+              pieces = self.now.pieces;
+              aux = aux.items;
+            }) }
     {
         Ok(Pattern {
             sheet: self.sheet.copy()?,

@@ -17,14 +17,22 @@ pub and_held : {A : Type 0} {P : ℕ → Type 0} → A ↔ (A × ((j : ℕ) → 
 and_held = (λ a. (a, λ j few. absurd (omega arith)), λ h. h.0)
 
 -- one more place
-pub next_place : {A B C : Type 0} (P : ℕ → Type 0) (k : ℕ) → A ↔ (B × ((j : ℕ) → j < k → P j)) → C ↔ (A × P k) → C ↔ (B × ((j : ℕ) → j < k + 1 → P j))
+pub next_place : {A B C : Type 0} (P : ℕ → Type 0) (k : ℕ) → A ↔ (B × ((j : ℕ) → j < k → P j)) → C ↔ (A × P k)
+    → C ↔ (B × ((j : ℕ) → j < k + 1 → P j))
 next_place {A} {B} {C} P k f g = (to, from)
   where
     to : C → B × ((j : ℕ) → j < k + 1 → P j)
     to c =
         let a = (g.0 c).0 in
-        let here = (g.0 c).1 in
-        ((f.0 a).0, λ j few. elim (cases_lt j k) [ inl less ↦ (f.0 a).1 j less | inr more ↦ (let e : k ≡ j = omega arith in subst P e here) ])
+        let here = (g.0 c).1 in (
+          (f.0 a).0,
+          λ j few. elim
+              (cases_lt j k) [
+                | inl less ↦ (f.0 a).1 j less
+                | inr more ↦
+                    (let e : k ≡ j = omega arith in subst P e here)
+              ],
+        )
 
     from : B × ((j : ℕ) → j < k + 1 → P j) → C
     from h = g.1 (f.1 (h.0, λ j few. h.1 j (omega arith)), h.1 k (omega arith))
@@ -34,7 +42,8 @@ pub and_given : {A B Q R : Type 0} → Q → A ↔ (B × R) → A ↔ (B × (Q �
 and_given q f = (λ a. ((f.0 a).0, λ _. (f.0 a).1), λ h. f.1 (h.0, h.1 q))
 
 -- all of them
-pub all_places : {A B : Type 0} (P : ℕ → Type 0) (k n : ℕ) → k ≡ n → A ↔ (B × ((j : ℕ) → j < k → P j)) → A ↔ (B × ((j : ℕ) → j < n → P j))
+pub all_places : {A B : Type 0} (P : ℕ → Type 0) (k n : ℕ) → k ≡ n → A ↔ (B × ((j : ℕ) → j < k → P j))
+    → A ↔ (B × ((j : ℕ) → j < n → P j))
 all_places {A} {B} P k n e f = subst (λ m. A ↔ (B × ((j : ℕ) → j < m → P j))) e f
 
 -- none from 1 on
@@ -45,12 +54,14 @@ pub and_empty_from : {A B : Type 0} {P : ℕ → Type 0} → A ↔ B → A ↔ (
 and_empty_from f = (λ a. (f.0 a, λ j few many. absurd (omega arith)), λ h. f.1 h.0)
 
 -- the same with nothing beside
-pub next_alone : {A C : Type 0} (P : ℕ → Type 0) (k : ℕ) → A ↔ ((j : ℕ) → j < k → P j) → C ↔ (A × P k) → C ↔ ((j : ℕ) → j < k + 1 → P j)
+pub next_alone : {A C : Type 0} (P : ℕ → Type 0) (k : ℕ) → A ↔ ((j : ℕ) → j < k → P j) → C ↔ (A × P k)
+    → C ↔ ((j : ℕ) → j < k + 1 → P j)
 next_alone P k f g =
     let h = next_place {B = Unit {0}} P k ((λ a. (tt, f.0 a)), λ w. f.1 w.1) g in
     ((λ c. (h.0 c).1), λ w. h.1 (tt, w))
 
 -- of an absent value nothing is said
-pub some_iff : {X : Type 0} (P Q : X → Type 0) (o : Option X) → ((x : X) → P x ↔ Q x) → IfSome o P → IfSome o Q
+pub some_iff : {X : Type 0} (P Q : X → Type 0) (o : Option X) → ((x : X) → P x ↔ Q x) → IfSome o P
+    → IfSome o Q
 some_iff P Q None h g = tt
 some_iff P Q (Some x) h g = (h x).0 g

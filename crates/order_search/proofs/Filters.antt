@@ -20,12 +20,14 @@ pub each_append : {X : Type 0} (P : X → Type 0) (xs ys : List X) → Each P xs
 each_append P [] ys h k = k
 each_append P (x ∷ xs) ys h k = (h.0, each_append P xs ys h.1 k)
 
-pub each_mapped : {X Y : Type 0} (P : Y → Type 0) (f : X → Y) (xs : List X) → Each (λ x. P (f x)) xs → Each P (map f xs)
+pub each_mapped : {X Y : Type 0} (P : Y → Type 0) (f : X → Y) (xs : List X) → Each (λ x. P (f x)) xs
+    → Each P (map f xs)
 each_mapped P f [] h = tt
 each_mapped P f (x ∷ xs) h = (h.0, each_mapped P f xs h.1)
 
 -- what passes a test has passed it
-pub each_filter : {X : Type 0} (P : X → Type 0) (c : X → Bool) (xs : List X) → Each P xs → Each (λ x. P x × (c x ≡ true)) (filter c xs)
+pub each_filter : {X : Type 0} (P : X → Type 0) (c : X → Bool) (xs : List X) → Each P xs
+    → Each (λ x. P x × (c x ≡ true)) (filter c xs)
 each_filter {X} P c [] h = tt
 each_filter {X} P c (x ∷ xs) h = go (each_filter P c xs h.1) (c x) refl
   where
@@ -35,45 +37,54 @@ each_filter {X} P c (x ∷ xs) h = go (each_filter P c xs h.1) (c x) refl
     go rest false e = rest
 
 -- filters by tests that agree on each element are the same
-pub filter_same : {X : Type 0} (f g : X → Bool) (xs : List X) → Each (λ x. f x ≡ g x) xs → filter f xs ≡ filter g xs
+pub filter_same : {X : Type 0} (f g : X → Bool) (xs : List X) → Each (λ x. f x ≡ g x) xs
+    → filter f xs ≡ filter g xs
 filter_same f g [] h = refl
 filter_same f g (x ∷ xs) h =
-    ap (λ b. cond b (x ∷ filter f xs) (filter f xs)) h.0 ∙ ap (λ l. cond (g x) (x ∷ l) l) (filter_same f g xs h.1)
+    ap (λ b. cond b (x ∷ filter f xs) (filter f xs)) h.0
+    ∙ ap (λ l. cond (g x) (x ∷ l) l) (filter_same f g xs h.1)
 
 pub filter_none : {X : Type 0} (f : X → Bool) (xs : List X) → Each (λ x. f x ≡ false) xs → filter f xs ≡ []
 filter_none f [] h = refl
 filter_none f (x ∷ xs) h = ap (λ b. cond b (x ∷ filter f xs) (filter f xs)) h.0 ∙ filter_none f xs h.1
 
-pub filter_append : {X : Type 0} (f : X → Bool) (xs ys : List X) → filter f (xs ++ ys) ≡ filter f xs ++ filter f ys
+pub filter_append : {X : Type 0} (f : X → Bool) (xs ys : List X)
+    → filter f (xs ++ ys) ≡ filter f xs ++ filter f ys
 filter_append f [] ys = refl
 filter_append f (x ∷ xs) ys = go (f x) (filter_append f xs ys)
   where
     go : (b : Bool) → filter f (xs ++ ys) ≡ filter f xs ++ filter f ys
-        → cond b (x ∷ filter f (xs ++ ys)) (filter f (xs ++ ys)) ≡ cond b (x ∷ filter f xs) (filter f xs) ++ filter f ys
+        → cond b (x ∷ filter f (xs ++ ys)) (filter f (xs ++ ys)) ≡ cond b (x ∷ filter f xs) (filter f xs)
+        ++ filter f ys
     go true e = ap (λ l. x ∷ l) e
     go false e = e
 
-pub filter_map : {X Y : Type 0} (f : Y → Bool) (h : X → Y) (xs : List X) → filter f (map h xs) ≡ map h (filter (λ x. f (h x)) xs)
+pub filter_map : {X Y : Type 0} (f : Y → Bool) (h : X → Y) (xs : List X)
+    → filter f (map h xs) ≡ map h (filter (λ x. f (h x)) xs)
 filter_map f h [] = refl
 filter_map f h (x ∷ xs) = go (f (h x)) (filter_map f h xs)
   where
     go : (b : Bool) → filter f (map h xs) ≡ map h (filter (λ x. f (h x)) xs)
-        → cond b (h x ∷ filter f (map h xs)) (filter f (map h xs)) ≡ map h (cond b (x ∷ filter (λ x. f (h x)) xs) (filter (λ x. f (h x)) xs))
+        → cond b (h x ∷ filter f (map h xs)) (filter f (map h xs))
+        ≡ map h (cond b (x ∷ filter (λ x. f (h x)) xs) (filter (λ x. f (h x)) xs))
     go true e = ap (λ l. h x ∷ l) e
     go false e = e
 
 -- two filters, one after the other, are one
-pub filter_filter : {X : Type 0} (f c : X → Bool) (xs : List X) → filter f (filter c xs) ≡ filter (λ x. c x && f x) xs
+pub filter_filter : {X : Type 0} (f c : X → Bool) (xs : List X)
+    → filter f (filter c xs) ≡ filter (λ x. c x && f x) xs
 filter_filter f c [] = refl
 filter_filter f c (x ∷ xs) = go (c x) (filter_filter f c xs)
   where
     go : (b : Bool) → filter f (filter c xs) ≡ filter (λ x. c x && f x) xs
-        → filter f (cond b (x ∷ filter c xs) (filter c xs)) ≡ cond (b && f x) (x ∷ filter (λ x. c x && f x) xs) (filter (λ x. c x && f x) xs)
+        → filter f (cond b (x ∷ filter c xs) (filter c xs))
+        ≡ cond (b && f x) (x ∷ filter (λ x. c x && f x) xs) (filter (λ x. c x && f x) xs)
     go true e = ap (λ l. cond (f x) (x ∷ l) l) e
     go false e = e
 
 -- a count from one place to a later one and from there to a still later one
-pub between_add : {X : Type 0} (b p q r : X → Bool) → ((x : X) → p x ≡ true → q x ≡ true) → ((x : X) → q x ≡ true → r x ≡ true) → (xs : List X)
+pub between_add : {X : Type 0} (b p q r : X → Bool) → ((x : X) → p x ≡ true → q x ≡ true)
+    → ((x : X) → q x ≡ true → r x ≡ true) → (xs : List X)
     → length (filter (λ x. b x && not (p x) && r x) xs)
     ≡ length (filter (λ x. b x && not (p x) && q x) xs) + length (filter (λ x. b x && not (q x) && r x) xs)
 between_add b p q r onward further [] = refl
@@ -82,10 +93,14 @@ between_add {X} b p q r onward further (x ∷ xs) =
   where
     go : (b' p' q' r' : Bool) → (p' ≡ true → q' ≡ true) → (q' ≡ true → r' ≡ true)
         → length (filter (λ x. b x && not (p x) && r x) xs)
-        ≡ length (filter (λ x. b x && not (p x) && q x) xs) + length (filter (λ x. b x && not (q x) && r x) xs)
-        → length (cond (b' && not p' && r') (x ∷ filter (λ x. b x && not (p x) && r x) xs) (filter (λ x. b x && not (p x) && r x) xs))
-        ≡ length (cond (b' && not p' && q') (x ∷ filter (λ x. b x && not (p x) && q x) xs) (filter (λ x. b x && not (p x) && q x) xs))
-        + length (cond (b' && not q' && r') (x ∷ filter (λ x. b x && not (q x) && r x) xs) (filter (λ x. b x && not (q x) && r x) xs))
+        ≡ length (filter (λ x. b x && not (p x) && q x) xs) + length
+        (filter (λ x. b x && not (q x) && r x) xs)
+        → length (cond (b' && not p' && r') (x ∷ filter (λ x. b x && not (p x) && r x) xs)
+        (filter (λ x. b x && not (p x) && r x) xs))
+        ≡ length (cond (b' && not p' && q') (x ∷ filter (λ x. b x && not (p x) && q x) xs)
+        (filter (λ x. b x && not (p x) && q x) xs))
+        + length (cond (b' && not q' && r') (x ∷ filter (λ x. b x && not (q x) && r x) xs)
+        (filter (λ x. b x && not (q x) && r x) xs))
     go false p' q' r' h k e = e
     go true true true r' h k e = e
     go true true false r' h k e = absurd (true≢false (sym (h refl)))

@@ -32,8 +32,10 @@ fewer : (common s t : List Sign) (x y : Bool) (pairs : ℕ)
 unfolding steps_left
 fewer common s t x y zero less below = absurd (omega (arith, below))
 fewer [] s t x y (suc pairs) less below = less pairs
-fewer (Over ∷ common) s t x y (suc pairs) less below = omega (arith, fewer common s t x y pairs less (omega (arith, below)))
-fewer (Under ∷ common) s t x y (suc pairs) less below = omega (arith, fewer common s t x y pairs less (omega (arith, below)))
+fewer (Over ∷ common) s t x y (suc pairs) less below =
+    omega (arith, fewer common s t x y pairs less (omega (arith, below)))
+fewer (Under ∷ common) s t x y (suc pairs) less below =
+    omega (arith, fewer common s t x y pairs less (omega (arith, below)))
 
 abbrev pub place_steps : Place → ℕ → ℕ
 place_steps place pairs = steps_left place.signs place.past pairs
@@ -59,28 +61,33 @@ fewer_up : (front s : List Sign) (x y : Bool) (pairs : ℕ)
     → ((free : ℕ) → steps_left [] x (suc free) < steps_left s y (suc free)) → length front < pairs
     → steps_left front x pairs < steps_left (front ++ s) y pairs
 fewer_up front s x y pairs less below =
-    subst (λ l. steps_left l x pairs < steps_left (front ++ s) y pairs) (append-nil front) (fewer front [] s x y pairs less below)
+    subst (λ l. steps_left l x pairs < steps_left (front ++ s) y pairs) (append-nil front)
+    (fewer front [] s x y pairs less below)
 
 fewer_down : (front s : List Sign) (x y : Bool) (pairs : ℕ)
     → ((free : ℕ) → steps_left s x (suc free) < steps_left [] y (suc free)) → length front < pairs
     → steps_left (front ++ s) x pairs < steps_left front y pairs
 fewer_down front s x y pairs less below =
-    subst (λ l. steps_left (front ++ s) x pairs < steps_left l y pairs) (append-nil front) (fewer front s [] x y pairs less below)
+    subst (λ l. steps_left (front ++ s) x pairs < steps_left l y pairs) (append-nil front)
+    (fewer front s [] x y pairs less below)
 
 pub fewer_descended : (r : RulesView) (s : List Sign) → length s < r.pairs
     → place_steps (descended r s) r.pairs < place_steps (before s) r.pairs
 fewer_descended r s below = first (is_consistent r (s ++ Over ∷ []))
   where
-    second : (u : Bool) → place_steps (cond u (before (s ++ Under ∷ [])) (after s)) r.pairs < place_steps (before s) r.pairs
+    second : (u : Bool) → place_steps (cond u (before (s ++ Under ∷ [])) (after s)) r.pairs < place_steps
+        (before s) r.pairs
     second true = fewer_down s (Under ∷ []) false false r.pairs
-        (λ free. omega (arith, at_under false free, at_start free, at_start (suc free), weight-suc free)) below
+        (λ free. omega (arith, at_under false free, at_start free, at_start (suc free), weight-suc free))
+        below
     second false =
         let base = fewer s [] [] true false r.pairs
         (λ free. omega (arith, at_end (suc free), at_start (suc free), weight-suc free)) below in
         subst (λ l. steps_left l true r.pairs < steps_left l false r.pairs) (append-nil s) base
 
     first : (o : Bool)
-        → place_steps (cond o (before (s ++ Over ∷ [])) (cond (is_consistent r (s ++ Under ∷ [])) (before (s ++ Under ∷ [])) (after s))) r.pairs
+        → place_steps (cond o (before (s ++ Over ∷ []))
+        (cond (is_consistent r (s ++ Under ∷ [])) (before (s ++ Under ∷ [])) (after s))) r.pairs
         < place_steps (before s) r.pairs
     first true = fewer_down s (Over ∷ []) false false r.pairs
         (λ free. omega (arith, at_over false free, at_start free, at_start (suc free), weight-suc free)) below
@@ -92,7 +99,9 @@ fewer_climbed r front Under below = fewer_up front (Under ∷ []) true true r.pa
     (λ free. omega (arith, at_end (suc free), at_under true free)) below
 fewer_climbed r front Over below = turn (is_consistent r (front ++ Under ∷ []))
   where
-    turn : (u : Bool) → place_steps (cond u (before (front ++ Under ∷ [])) (after front)) r.pairs < place_steps (after (front ++ Over ∷ [])) r.pairs
+    turn : (u : Bool) → place_steps
+        (cond u (before (front ++ Under ∷ [])) (after front)) r.pairs < place_steps
+        (after (front ++ Over ∷ [])) r.pairs
     turn true = fewer front (Under ∷ []) (Over ∷ []) false true r.pairs
         (λ free. omega (arith, at_under false free, at_start free, at_over true free, at_end free)) below
     turn false = fewer_up front (Over ∷ []) true true r.pairs

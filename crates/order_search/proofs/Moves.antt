@@ -30,7 +30,8 @@ or-false true = refl
 or-false false = refl
 
 -- no consistent list begins with one that is not
-none_begins : (r : RulesView) (s q : List Sign) → is_consistent r s ≡ false → is_consistent r q ≡ true → begins_with s q ≡ false
+none_begins : (r : RulesView) (s q : List Sign) → is_consistent r s ≡ false → is_consistent r q ≡ true
+    → begins_with s q ≡ false
 none_begins r s q broken consistent = elim (cases_Bool (begins_with s q)) [
   | inl begins ↦
       let split = begins_with-split s q begins in
@@ -42,25 +43,34 @@ none_begins r s q broken consistent = elim (cases_Bool (begins_with s q)) [
 
 -- right after all with Over behind the signs
 past_over : (s q : List Sign)
-    → is_passed q (s ++ Over ∷ []) true ≡ ((is_passed q s false || is_list q s) || begins_with (s ++ Over ∷ []) q)
-past_over s q = passed-past q (s ++ Over ∷ []) ∙ ap (λ b. b || begins_with (s ++ Over ∷ []) q) (passed-down q s)
+    → is_passed q (s ++ Over ∷ []) true
+    ≡ ((is_passed q s false || is_list q s) || begins_with (s ++ Over ∷ []) q)
+past_over s q = passed-past q (s ++ Over ∷ [])
+    ∙ ap (λ b. b || begins_with (s ++ Over ∷ []) q) (passed-down q s)
 
 -- right after all with the signs
 past_both : (s q : List Sign)
     → is_passed q s true ≡ (is_passed q (s ++ Over ∷ []) true || begins_with (s ++ Under ∷ []) q)
 past_both s q =
-    sym (passed-climb q s) ∙ passed-past q (s ++ Under ∷ []) ∙ ap (λ b. b || begins_with (s ++ Under ∷ []) q) (passed-turn q s)
+    sym (passed-climb q s) ∙ passed-past q (s ++ Under ∷ [])
+    ∙ ap (λ b. b || begins_with (s ++ Under ∷ []) q) (passed-turn q s)
 
 to_over : (r : RulesView) (s : List Sign) → IsMove r (before s) (before (s ++ Over ∷ [])) (λ q. is_list q s)
-to_over r s = move_by r (before s) (before (s ++ Over ∷ [])) (λ q. is_list q s) (λ q. is_list q s) (λ q. passed-down q s) (λ q _. refl)
+to_over r s = move_by r (before s) (before (s ++ Over ∷ [])) (λ q. is_list q s) (λ q. is_list q s)
+    (λ q. passed-down q s) (λ q _. refl)
 
 to_under : (r : RulesView) (s : List Sign) → is_consistent r (s ++ Over ∷ []) ≡ false
     → IsMove r (before s) (before (s ++ Under ∷ [])) (λ q. is_list q s)
-to_under r s no_over = move_by r (before s) (before (s ++ Under ∷ [])) (λ q. is_list q s) (λ q. is_list q s || begins_with (s ++ Over ∷ []) q)
-    (λ q. passed-turn q s ∙ past_over s q ∙ or_assoc (is_passed q s false) (is_list q s) (begins_with (s ++ Over ∷ []) q))
-    (λ q consistent. ap (λ b. is_list q s || b) (none_begins r (s ++ Over ∷ []) q no_over consistent) ∙ sym (or-false (is_list q s)))
+to_under r s no_over =
+    move_by r (before s) (before (s ++ Under ∷ [])) (λ q. is_list q s)
+    (λ q. is_list q s || begins_with (s ++ Over ∷ []) q)
+    (λ q. passed-turn q s ∙ past_over s q
+    ∙ or_assoc (is_passed q s false) (is_list q s) (begins_with (s ++ Over ∷ []) q))
+    (λ q consistent. ap (λ b. is_list q s || b) (none_begins r (s ++ Over ∷ []) q no_over consistent)
+    ∙ sym (or-false (is_list q s)))
 
-to_past : (r : RulesView) (s : List Sign) → is_consistent r (s ++ Over ∷ []) ≡ false → is_consistent r (s ++ Under ∷ []) ≡ false
+to_past : (r : RulesView) (s : List Sign) → is_consistent r (s ++ Over ∷ []) ≡ false
+    → is_consistent r (s ++ Under ∷ []) ≡ false
     → IsMove r (before s) (after s) (λ q. is_list q s)
 to_past r s no_over no_under =
     move_by r (before s) (after s) (λ q. is_list q s)
@@ -69,9 +79,11 @@ to_past r s no_over no_under =
     past_both s q
     ∙ ap (λ b. b || begins_with (s ++ Under ∷ []) q)
     (past_over s q ∙ or_assoc (is_passed q s false) (is_list q s) (begins_with (s ++ Over ∷ []) q))
-    ∙ or_assoc (is_passed q s false) (is_list q s || begins_with (s ++ Over ∷ []) q) (begins_with (s ++ Under ∷ []) q))
+    ∙ or_assoc (is_passed q s false) (is_list q s || begins_with (s ++ Over ∷ []) q)
+    (begins_with (s ++ Under ∷ []) q))
     (λ q consistent.
-    ap (λ b. (is_list q s || begins_with (s ++ Over ∷ []) q) || b) (none_begins r (s ++ Under ∷ []) q no_under consistent)
+    ap (λ b. (is_list q s || begins_with (s ++ Over ∷ []) q) || b)
+    (none_begins r (s ++ Under ∷ []) q no_under consistent)
     ∙ sym (or-false (is_list q s || begins_with (s ++ Over ∷ []) q))
     ∙ ap (λ b. is_list q s || b) (none_begins r (s ++ Over ∷ []) q no_over consistent)
     ∙ sym (or-false (is_list q s)))
@@ -85,7 +97,9 @@ descended-move r s = first (is_consistent r (s ++ Over ∷ [])) refl
     second no_over false no_under = to_past r s no_over no_under
 
     first : (o : Bool) → is_consistent r (s ++ Over ∷ []) ≡ o
-        → IsMove r (before s) (cond o (before (s ++ Over ∷ [])) (cond (is_consistent r (s ++ Under ∷ [])) (before (s ++ Under ∷ [])) (after s)))
+        → IsMove r (before s)
+        (cond o (before (s ++ Over ∷ []))
+        (cond (is_consistent r (s ++ Under ∷ [])) (before (s ++ Under ∷ [])) (after s)))
         (λ q. is_list q s)
     first true fits = to_over r s
     first false no_over = second no_over (is_consistent r (s ++ Under ∷ [])) refl
@@ -98,11 +112,13 @@ climbed-move r front Under =
 climbed-move r front Over = turn (is_consistent r (front ++ Under ∷ [])) refl
   where
     turn : (u : Bool) → is_consistent r (front ++ Under ∷ []) ≡ u
-        → IsMove r (after (front ++ Over ∷ [])) (cond u (before (front ++ Under ∷ [])) (after front)) (λ q. false)
+        → IsMove r (after (front ++ Over ∷ [])) (cond u (before (front ++ Under ∷ [])) (after front))
+        (λ q. false)
     turn true fits =
         move_by r (after (front ++ Over ∷ [])) (before (front ++ Under ∷ [])) (λ q. false) (λ q. false)
         (λ q. passed-turn q front ∙ or-false (is_passed q (front ++ Over ∷ []) true)) (λ q _. refl)
     turn false no_under =
-        move_by r (after (front ++ Over ∷ [])) (after front) (λ q. false) (λ q. begins_with (front ++ Under ∷ []) q)
+        move_by r (after (front ++ Over ∷ [])) (after front) (λ q. false)
+        (λ q. begins_with (front ++ Under ∷ []) q)
         (λ q. past_both front q)
         (λ q consistent. none_begins r (front ++ Under ∷ []) q no_under consistent)

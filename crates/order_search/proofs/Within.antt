@@ -18,7 +18,8 @@ consistent-length r s holds =
     let parts = and_parts (nat_le (length s) r.pairs) (not (list_any (is_broken s) r.rules)) holds in
     leb-true (length s) r.pairs parts.0
 
-pub place_at : (p : Position) (past : Bool) → p.past ≡ past → place_of p ≡ record { signs = p.signs.list; past = past }
+pub place_at : (p : Position) (past : Bool) → p.past ≡ past
+    → place_of p ≡ record { signs = p.signs.list; past = past }
 place_at p past e =
     let at : Bool → Place = λ x. record { signs = p.signs.list; past = x } in
     ap at e
@@ -30,14 +31,16 @@ last_of (sign ∷ []) some = ([], sign, refl)
 last_of (first ∷ second ∷ s) some =
     let l = last_of (second ∷ s) (omega arith) in (first ∷ l.0, l.1, ap (λ t. first ∷ t) l.2)
 
-longer : (r : RulesView) (prefix s : List Sign) (sign : Sign) → IsWithin r prefix s → is_consistent r (s ++ sign ∷ []) ≡ true
+longer : (r : RulesView) (prefix s : List Sign) (sign : Sign) → IsWithin r prefix s
+    → is_consistent r (s ++ sign ∷ []) ≡ true
     → IsWithin r prefix (s ++ sign ∷ [])
 longer r prefix s sign within consistent = record {
   begins = begins_with-longer prefix s (sign ∷ []) within.begins;
   consistent = consistent;
 }
 
-pub within_descended : (r : RulesView) (prefix s : List Sign) → IsWithin r prefix s → IsWithin r prefix (descended r s).signs
+pub within_descended : (r : RulesView) (prefix s : List Sign) → IsWithin r prefix s
+    → IsWithin r prefix (descended r s).signs
 within_descended r prefix s within = first (is_consistent r (s ++ Over ∷ [])) refl
   where
     second : (u : Bool) → is_consistent r (s ++ Under ∷ []) ≡ u
@@ -46,18 +49,21 @@ within_descended r prefix s within = first (is_consistent r (s ++ Over ∷ [])) 
     second false no_under = within
 
     first : (o : Bool) → is_consistent r (s ++ Over ∷ []) ≡ o
-        → IsWithin r prefix (cond o (before (s ++ Over ∷ [])) (cond (is_consistent r (s ++ Under ∷ [])) (before (s ++ Under ∷ [])) (after s))).signs
+        → IsWithin r prefix (cond o (before (s ++ Over ∷ []))
+        (cond (is_consistent r (s ++ Under ∷ [])) (before (s ++ Under ∷ [])) (after s))).signs
     first true fits = longer r prefix s Over within fits
     first false no_over = second (is_consistent r (s ++ Under ∷ [])) refl
 
-shorter : (r : RulesView) (prefix front : List Sign) (sign : Sign) → IsWithin r prefix (front ++ sign ∷ []) → length prefix ≤ length front
+shorter : (r : RulesView) (prefix front : List Sign) (sign : Sign) → IsWithin r prefix (front ++ sign ∷ [])
+    → length prefix ≤ length front
     → IsWithin r prefix front
 shorter r prefix front sign within below = record {
   begins = begins_with-shorter prefix front (sign ∷ []) within.begins below;
   consistent = consistent-front r front (sign ∷ []) within.consistent;
 }
 
-pub within_climbed : (r : RulesView) (prefix front : List Sign) (sign : Sign) → IsWithin r prefix (front ++ sign ∷ [])
+pub within_climbed : (r : RulesView) (prefix front : List Sign) (sign : Sign)
+    → IsWithin r prefix (front ++ sign ∷ [])
     → length prefix ≤ length front → IsWithin r prefix (climbed r front sign).signs
 within_climbed r prefix front Under within below = shorter r prefix front Under within below
 within_climbed r prefix front Over within below = turn (is_consistent r (front ++ Under ∷ [])) refl

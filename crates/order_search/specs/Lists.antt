@@ -26,9 +26,11 @@ open_lists r = filter (is_consistent r) (shorter_lists r.pairs)
 
 -- the orders that begin with the prefix and do not stand before the place
 unfoldable pub remaining : RulesView → List Sign → Place → List (List Sign)
-remaining r prefix place = filter (λ order. begins_with prefix order && not (is_passed order place.signs place.past)) (orders r)
+remaining r prefix place =
+    filter (λ order. begins_with prefix order && not (is_passed order place.signs place.past)) (orders r)
 
 -- which of the lists begin with the prefix, do not stand before the first place, and stand before the second
 unfoldable pub lists_between : List (List Sign) → List Sign → Place → Place → List (List Sign)
 lists_between lists prefix from to =
-    filter (λ q. begins_with prefix q && not (is_passed q from.signs from.past) && is_passed q to.signs to.past) lists
+    filter (λ q. begins_with prefix q && not (is_passed q from.signs from.past)
+    && is_passed q to.signs to.past) lists

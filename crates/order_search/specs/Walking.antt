@@ -22,7 +22,8 @@ descended r signs =
 -- from after all with this last sign: to the list with the other sign, where that comes later and is consistent, or past
 -- the shorter list
 abbrev pub climbed : RulesView → List Sign → Sign → Place
-climbed r front Over = if is_consistent r (front ++ Under ∷ []) then before (front ++ Under ∷ []) else after front
+climbed r front Over =
+    if is_consistent r (front ++ Under ∷ []) then before (front ++ Under ∷ []) else after front
 climbed r front Under = after front
 
 -- what a walk answers, by where it began and where it stands

@@ -10,7 +10,8 @@ use Rattle.job_register.specs.Text.{text_of}
 use Rattle.oriedita_cli.specs.Serving.{Serves, StopsIn}
 
 -- before the first command
-pub stops_at_once : (es : List Event) (taken : Option (List ℕ)) (commands : List Command) → StopsIn es es taken taken commands
+pub stops_at_once : (es : List Event) (taken : Option (List ℕ)) (commands : List Command)
+    → StopsIn es es taken taken commands
 stops_at_once es taken commands = record {
   ran = [];
   left = commands;
@@ -23,8 +24,10 @@ stops_at_once es taken commands = record {
 }
 
 -- while the text of a command is written
-pub stops_in_text : (old new : List Event) (taken taken' : Option (List ℕ)) (command : Command) (text : List ℕ) (count : ℕ)
-    → commands_in new ≡ commands_in old ++ command ∷ [] → text_of new ≡ text_of old ++ text → Appends taken taken' (take count text)
+pub stops_in_text : (old new : List Event) (taken taken' : Option (List ℕ)) (command : Command)
+    (text : List ℕ) (count : ℕ)
+    → commands_in new ≡ commands_in old ++ command ∷ [] → text_of new ≡ text_of old ++ text
+    → Appends taken taken' (take count text)
     → StopsIn old new taken taken' (command ∷ [])
 stops_in_text old new taken taken' command text count ran told written = record {
   ran = command ∷ [];
@@ -46,22 +49,31 @@ serves_none es taken = record {
   written = Appends-nil taken;
 }
 
-pub serves_both : (es fs gs : List Event) (t u v : Option (List ℕ)) (commands more : List Command) → Serves es fs t u commands → Serves fs gs u v more → Serves es gs t v (commands ++ more)
+pub serves_both : (es fs gs : List Event) (t u v : Option (List ℕ)) (commands more : List Command)
+    → Serves es fs t u commands → Serves fs gs u v more → Serves es gs t v (commands ++ more)
 serves_both es fs gs t u v commands more first second = record {
-  commands_are = second.commands_are ∙ ap (λ xs. xs ++ more) first.commands_are ∙ append_assoc (commands_in es) commands more;
+  commands_are = second.commands_are ∙ ap (λ xs. xs ++ more) first.commands_are
+      ∙ append_assoc (commands_in es) commands more;
   text = first.text ++ second.text;
-  text_is = second.text_is ∙ ap (λ xs. xs ++ second.text) first.text_is ∙ append_assoc (text_of es) first.text second.text;
+  text_is = second.text_is ∙ ap (λ xs. xs ++ second.text) first.text_is
+      ∙ append_assoc (text_of es) first.text second.text;
   written = Appends-trans t u v first.text second.text first.written second.written;
 }
 
-pub serves_then_stops : (es fs gs : List Event) (t u v : Option (List ℕ)) (commands more rest : List Command) → Serves es fs t u commands → StopsIn fs gs u v more → StopsIn es gs t v (commands ++ (more ++ rest))
+pub serves_then_stops : (es fs gs : List Event) (t u v : Option (List ℕ)) (commands more rest : List Command)
+    → Serves es fs t u commands → StopsIn fs gs u v more → StopsIn es gs t v (commands ++ (more ++ rest))
 serves_then_stops es fs gs t u v commands more rest first second = record {
   ran = commands ++ second.ran;
   left = second.left ++ rest;
-  front = ap (λ xs. commands ++ (xs ++ rest)) second.front ∙ ap (λ xs. commands ++ xs) (append_assoc second.ran second.left rest) ∙ sym (append_assoc commands second.ran (second.left ++ rest));
-  commands_are = second.commands_are ∙ ap (λ xs. xs ++ second.ran) first.commands_are ∙ append_assoc (commands_in es) commands second.ran;
+  front = ap (λ xs. commands ++ (xs ++ rest)) second.front
+      ∙ ap (λ xs. commands ++ xs) (append_assoc second.ran second.left rest)
+      ∙ sym (append_assoc commands second.ran (second.left ++ rest));
+  commands_are = second.commands_are ∙ ap (λ xs. xs ++ second.ran) first.commands_are
+      ∙ append_assoc (commands_in es) commands second.ran;
   text = first.text ++ second.text;
   unwritten = second.unwritten;
-  text_is = second.text_is ∙ ap (λ xs. xs ++ (second.text ++ second.unwritten)) first.text_is ∙ append_assoc (text_of es) first.text (second.text ++ second.unwritten) ∙ ap (λ xs. text_of es ++ xs) (sym (append_assoc first.text second.text second.unwritten));
+  text_is = second.text_is ∙ ap (λ xs. xs ++ (second.text ++ second.unwritten)) first.text_is
+      ∙ append_assoc (text_of es) first.text (second.text ++ second.unwritten)
+      ∙ ap (λ xs. text_of es ++ xs) (sym (append_assoc first.text second.text second.unwritten));
   written = Appends-trans t u v first.text second.text first.written second.written;
 }

@@ -32,7 +32,8 @@ pub record IsInput (status : ℕ) (events : List Event) (bytes : List ℕ) : Typ
   pub too_long : script_limit < length bytes → (status ≡ 5) ⊎ (status ≡ 6)
 
 -- The output clause, for the bytes that the sink took.
-pub record IsOutput (status : ℕ) (events : List Event) (taken taken' : Option (List ℕ)) (finished' : Option Bool) : Type 0 where
+pub record IsOutput (status : ℕ) (events : List Event) (taken taken' : Option (List ℕ))
+    (finished' : Option Bool) : Type 0 where
   -- at 0, 1 and 3 the whole text of the record is written, and the sink is finished
   pub whole : (status < 2) ⊎ (status ≡ 3) → Appends taken taken' (text_of events)
   pub finished : (status < 2) ⊎ (status ≡ 3) → Tells finished' true

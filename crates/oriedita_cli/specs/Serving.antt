@@ -7,14 +7,16 @@ use Rattle.job_register.specs.Legal.{commands_in}
 use Rattle.job_register.specs.Text.{text_of}
 
 -- the record has gone on by these commands, and all of their text was written
-pub record Serves (old new : List Event) (taken taken' : Option (List ℕ)) (commands : List Command) : Type 0 where
+pub record Serves (old new : List Event) (taken taken' : Option (List ℕ))
+    (commands : List Command) : Type 0 where
   pub commands_are : commands_in new ≡ commands_in old ++ commands
   pub text : List ℕ
   pub text_is : text_of new ≡ text_of old ++ text
   pub written : Appends taken taken' text
 
 -- the record has gone on by the first few of these commands, and the front of their text was written
-pub record StopsIn (old new : List Event) (taken taken' : Option (List ℕ)) (commands : List Command) : Type 0 where
+pub record StopsIn (old new : List Event) (taken taken' : Option (List ℕ))
+    (commands : List Command) : Type 0 where
   pub ran : List Command
   pub left : List Command
   pub front : commands ≡ ran ++ left

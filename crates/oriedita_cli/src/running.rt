@@ -79,8 +79,10 @@ fn finish<K: Sink>(session: Session, out: &mut K) -> Ended
 fn run_commands<K: Sink>(alloc: Global, commands: Commands, out: &mut K) -> Ended
     ensures legal { IsLegal (events_of result.events) }
     ensures input { IsAnswered result.status (events_of result.events) commands }
-    ensures output { IsOutput result.status (events_of result.events) (K.taken out.old) (K.taken out.new) (K.finished out.new) }
-    ensures status { (result.status ≡ ended_status (events_of result.events)) ⊎ ((result.status ≡ WRITE_FAILED) ⊎ (result.status ≡ NO_MEMORY)) }
+    ensures output { IsOutput result.status (events_of result.events) (K.taken out.old) (K.taken out.new)
+        (K.finished out.new) }
+    ensures status { (result.status ≡ ended_status (events_of result.events))
+        ⊎ ((result.status ≡ WRITE_FAILED) ⊎ (result.status ≡ NO_MEMORY)) }
     ensures cause { result.status ≡ WRITE_FAILED → Rose (K.faults out.old) (K.faults out.new) }
     ensures faults_stay { K.faults out.old ≤ K.faults out.new }
 {
@@ -119,8 +121,10 @@ fn run_bytes<K: Sink>(alloc: Global, bytes: &[u8], out: &mut K) -> Ended
     requires { length bytes.now ≤ script_limit }
     ensures legal { IsLegal (events_of result.events) }
     ensures input { IsAnswered result.status (events_of result.events) (commands_of bytes.now) }
-    ensures output { IsOutput result.status (events_of result.events) (K.taken out.old) (K.taken out.new) (K.finished out.new) }
-    ensures status { (result.status ≡ ended_status (events_of result.events)) ⊎ ((result.status ≡ WRITE_FAILED) ⊎ (result.status ≡ NO_MEMORY)) }
+    ensures output { IsOutput result.status (events_of result.events) (K.taken out.old) (K.taken out.new)
+        (K.finished out.new) }
+    ensures status { (result.status ≡ ended_status (events_of result.events))
+        ⊎ ((result.status ≡ WRITE_FAILED) ⊎ (result.status ≡ NO_MEMORY)) }
     ensures cause { result.status ≡ WRITE_FAILED → Rose (K.faults out.old) (K.faults out.new) }
     ensures faults_stay { K.faults out.old ≤ K.faults out.new }
 {
@@ -136,7 +140,8 @@ fn run_input<K: Sink>(alloc: Global, input: &Input, out: &mut K) -> Ended
     ensures input { IsInput result.status (events_of result.events) input.now.bytes.items }
     ensures ended { result.status < 2 → input.now.end ≡ InputEnd.Ended }
     ensures failed { result.status ≡ READ_FAILED → input.now.end ≡ InputEnd.Failed }
-    ensures output { IsOutput result.status (events_of result.events) (K.taken out.old) (K.taken out.new) (K.finished out.new) }
+    ensures output { IsOutput result.status (events_of result.events) (K.taken out.old) (K.taken out.new)
+        (K.finished out.new) }
     ensures refusals { result.status < 2 → result.status ≡ ended_status (events_of result.events) }
     ensures status { result.status ≤ 6 }
     ensures words { result.status ≢ BAD_WORDS }
@@ -167,7 +172,8 @@ pub fn run<S: Source, K: Sink>(
     ensures read_to_its_end { result.status < 2 → IsAtEnd (S.left script.new) }
 
     // The output clause.
-    ensures output { IsOutput result.status (events_of result.events) (K.taken out.old) (K.taken out.new) (K.finished out.new) }
+    ensures output { IsOutput result.status (events_of result.events) (K.taken out.old) (K.taken out.new)
+        (K.finished out.new) }
 
     // The status clause.
     ensures status { result.status ≤ 6 }

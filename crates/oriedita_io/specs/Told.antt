@@ -17,26 +17,34 @@ abbrev pub FinishedAfter : Option Bool → Option Bool → ℕ → Type 0
 FinishedAfter before after count = (count ≡ 0 → after ≡ before) × (0 < count → Tells after false)
 
 -- the sink took the first few of these bytes, and not all
-pub record WritesPart (taken taken' : Option (List ℕ)) (finished finished' : Option Bool) (bytes : List ℕ) : Type 0 where
+pub record WritesPart (taken taken' : Option (List ℕ)) (finished finished' : Option Bool)
+    (bytes : List ℕ) : Type 0 where
   pub count : ℕ
   pub short : count < length bytes
   pub appended : Appends taken taken' (take count bytes)
   pub finished_after : FinishedAfter finished finished' count
 
 -- what is told after the bytes of two calls
-pub FinishedAfter-add : (before middle after : Option Bool) (m n : ℕ) → FinishedAfter before middle m → FinishedAfter middle after n → FinishedAfter before after (m + n)
-FinishedAfter-add before middle after m zero first second =
-    (λ none. second.0 refl ∙ first.0 (omega arith), λ some. subst (λ told. Tells told false) (sym (second.0 refl)) (first.1 (omega arith)))
+pub FinishedAfter-add : (before middle after : Option Bool) (m n : ℕ) → FinishedAfter before middle m
+    → FinishedAfter middle after n → FinishedAfter before after (m + n)
+FinishedAfter-add before middle after m zero first second = (
+  λ none. second.0 refl ∙ first.0 (omega arith),
+  λ some. subst (λ told. Tells told false) (sym (second.0 refl)) (first.1 (omega arith)),
+)
 FinishedAfter-add before middle after m (suc n) first second =
     (λ none. absurd (omega arith), λ some. second.1 (omega arith))
 
 -- a sink that was not finished is not finished by what it takes
-pub FinishedAfter-unfinished : (before after : Option Bool) (count : ℕ) → FinishedAfter before after count → Tells before false → Tells after false
-FinishedAfter-unfinished before after zero told unfinished = subst (λ t. Tells t false) (sym (told.0 refl)) unfinished
+pub FinishedAfter-unfinished : (before after : Option Bool) (count : ℕ) → FinishedAfter before after count
+    → Tells before false → Tells after false
+FinishedAfter-unfinished before after zero told unfinished =
+    subst (λ t. Tells t false) (sym (told.0 refl)) unfinished
 FinishedAfter-unfinished before after (suc n) told unfinished = told.1 (omega arith)
 
 -- a part of the rest, after the whole front, is a part of both
-pub WritesPart-after : (t u v : Option (List ℕ)) (f g h : Option Bool) (front rest : List ℕ) → Appends t u front → FinishedAfter f g (length front) → WritesPart u v g h rest → WritesPart t v f h (front ++ rest)
+pub WritesPart-after : (t u v : Option (List ℕ)) (f g h : Option Bool) (front rest : List ℕ)
+    → Appends t u front → FinishedAfter f g (length front) → WritesPart u v g h rest
+    → WritesPart t v f h (front ++ rest)
 WritesPart-after t u v f g h front rest whole told part = record {
   count = length front + part.count;
   short = simp length-append (omega (arith, part.short));
@@ -45,10 +53,12 @@ WritesPart-after t u v f g h front rest whole told part = record {
 }
 
 -- a part of the front is a part of the front and the rest
-pub WritesPart-front : (t u : Option (List ℕ)) (f g : Option Bool) (front rest : List ℕ) → WritesPart t u f g front → WritesPart t u f g (front ++ rest)
+pub WritesPart-front : (t u : Option (List ℕ)) (f g : Option Bool) (front rest : List ℕ)
+    → WritesPart t u f g front → WritesPart t u f g (front ++ rest)
 WritesPart-front t u f g front rest part = record {
   count = part.count;
   short = simp length-append (omega (arith, part.short));
-  appended = let within : part.count ≤ length front = omega (arith, part.short) in rw (take-append-le part.count front rest within) part.appended;
+  appended = let within : part.count ≤ length front = omega (arith, part.short)
+      in rw (take-append-le part.count front rest within) part.appended;
   finished_after = part.finished_after;
 }

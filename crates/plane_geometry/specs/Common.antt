@@ -42,12 +42,14 @@ meeting_point d o e u i = record {
 -- where the line in direction m of offset o meets the line in a later direction n of offset u, both 0 to 7
 abbrev pub lines_meet_at : ℕ → Number → ℕ → Number → Position
 lines_meet_at m o n u =
-    meeting_point (direction_vector m) o (direction_vector n) u (unit_inverse_of (cross_tangents m n) (cross_roots m n))
+    meeting_point (direction_vector m) o (direction_vector n) u
+    (unit_inverse_of (cross_tangents m n) (cross_roots m n))
 
 -- where a line meets one of a later direction
 abbrev pub meeting_of : Line → Line → Position
 meeting_of l m =
-    lines_meet_at (line_number l) (wide_number_of (line_offset l)) (line_number m) (wide_number_of (line_offset m))
+    lines_meet_at (line_number l) (wide_number_of (line_offset l)) (line_number m)
+    (wide_number_of (line_offset m))
 
 -- the direction and the offset of the line of a stretch
 abbrev pub line_direction : Stretch → ℕ

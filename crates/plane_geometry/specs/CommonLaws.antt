@@ -33,52 +33,69 @@ module _ (p : Position) (m : ℕ) (q : Position) (n : ℕ) (less : m < n) (few :
   pub meet_in_first : side_of p m (meet_at p m q n) ≡ Zero
   meet_in_first =
       side_from_offset p m (meet_at p m q n)
-      (meets_first (direction_vector m) (cross_of (direction_vector m) p) (direction_vector n) (cross_of (direction_vector n) q) (unit_inverse_of (cross_tangents m n) (cross_roots m n)) (unit_is_inverse m n less few))
+      (meets_first (direction_vector m) (cross_of (direction_vector m) p) (direction_vector n)
+      (cross_of (direction_vector n) q) (unit_inverse_of (cross_tangents m n) (cross_roots m n))
+      (unit_is_inverse m n less few))
 
   pub meet_in_second : side_of q n (meet_at p m q n) ≡ Zero
   meet_in_second =
       side_from_offset q n (meet_at p m q n)
-      (meets_second (direction_vector m) (cross_of (direction_vector m) p) (direction_vector n) (cross_of (direction_vector n) q) (unit_inverse_of (cross_tangents m n) (cross_roots m n)) (unit_is_inverse m n less few))
+      (meets_second (direction_vector m) (cross_of (direction_vector m) p) (direction_vector n)
+      (cross_of (direction_vector n) q) (unit_inverse_of (cross_tangents m n) (cross_roots m n))
+      (unit_is_inverse m n less few))
 
-  pub meet_only : (v : Position) → side_of p m v ≡ Zero → side_of q n v ≡ Zero → IsSame v.x (meet_at p m q n).x × IsSame v.y (meet_at p m q n).y
+  pub meet_only : (v : Position) → side_of p m v ≡ Zero → side_of q n v ≡ Zero
+      → IsSame v.x (meet_at p m q n).x × IsSame v.y (meet_at p m q n).y
   meet_only v e f =
       let d = direction_vector m in
       let o = cross_of d p in
       let d' = direction_vector n in
       let u = cross_of d' q in
-      let i = unit_inverse_of (cross_tangents m n) (cross_roots m n) in
-      (only_x d o d' u i v (unit_is_inverse m n less few) (offset_from_side p m v e) (offset_from_side q n v f), only_y d o d' u i v (unit_is_inverse m n less few) (offset_from_side p m v e) (offset_from_side q n v f))
+      let i = unit_inverse_of (cross_tangents m n) (cross_roots m n) in (
+        only_x d o d' u i v (unit_is_inverse m n less few) (offset_from_side p m v e)
+            (offset_from_side q n v f),
+        only_y d o d' u i v (unit_is_inverse m n less few)
+            (offset_from_side p m v e) (offset_from_side q n v f),
+      )
 
 -- ---- directions modulo 8
 
 -- a direction and the opposite one have the same lines
-side_opposite : (p : Position) (n : ℕ) (v : Position) → n < 8 → side_of p (n + 8) v ≡ opposite_sign (side_of p n v)
+side_opposite : (p : Position) (n : ℕ) (v : Position) → n < 8
+    → side_of p (n + 8) v ≡ opposite_sign (side_of p n v)
 side_opposite p n v few =
     let d = direction_vector n in
     let w = vector_of p v in
     ap (λ (e : Position). sign_of (cross_of e w)) (opposite_direction n few)
-    ∙ sym (sign_of-same (negative_of (cross_of d w)) (cross_of (opposite_of d) w) (cross_opposite d w)) ∙ sign_of-negative (cross_of d w)
+    ∙ sym (sign_of-same (negative_of (cross_of d w)) (cross_of (opposite_of d) w) (cross_opposite d w))
+    ∙ sign_of-negative (cross_of d w)
 
 zero_opposite : (s : Sgn) → opposite_sign s ≡ Zero → s ≡ Zero
 zero_opposite Zero e = refl
 zero_opposite Neg e = cc
 zero_opposite Pos e = cc
 
-pub side_modulo : (p : Position) (n : ℕ) (v : Position) → n < 16 → side_of p n v ≡ Zero → side_of p (n % 8) v ≡ Zero
+pub side_modulo : (p : Position) (n : ℕ) (v : Position) → n < 16 → side_of p n v ≡ Zero
+    → side_of p (n % 8) v ≡ Zero
 side_modulo p n v few e =
     elim (cases_lt n 8) [
       | inl less ↦ (let number : n ≡ n % 8 = omega arith in subst (λ (m : ℕ). side_of p m v ≡ Zero) number e)
       | inr more ↦
           (let number : n ≡ n % 8 + 8 = omega arith in
-          zero_opposite (side_of p (n % 8) v) (sym (side_opposite p (n % 8) v (omega arith)) ∙ subst (λ (m : ℕ). side_of p m v ≡ Zero) number e))
+          zero_opposite (side_of p (n % 8) v)
+          (sym (side_opposite p (n % 8) v (omega arith))
+          ∙ subst (λ (m : ℕ). side_of p m v ≡ Zero) number e))
     ]
 
-pub side_from_modulo : (p : Position) (n : ℕ) (v : Position) → n < 16 → side_of p (n % 8) v ≡ Zero → side_of p n v ≡ Zero
+pub side_from_modulo : (p : Position) (n : ℕ) (v : Position) → n < 16 → side_of p (n % 8) v ≡ Zero
+    → side_of p n v ≡ Zero
 side_from_modulo p n v few e =
     elim (cases_lt n 8) [
       | inl less ↦ (let number : n % 8 ≡ n = omega arith in subst (λ (m : ℕ). side_of p m v ≡ Zero) number e)
       | inr more ↦
-          (let number : n % 8 + 8 ≡ n = omega arith in subst (λ (m : ℕ). side_of p m v ≡ Zero) number (side_opposite p (n % 8) v (omega arith) ∙ ap opposite_sign e))
+          (let number : n % 8 + 8 ≡ n = omega arith
+          in subst (λ (m : ℕ). side_of p m v ≡ Zero) number
+          (side_opposite p (n % 8) v (omega arith) ∙ ap opposite_sign e))
     ]
 
 -- ---- the common point
@@ -97,10 +114,14 @@ both_of_parts (Some x) (Some y) p e =
 both_of_parts (Some x) None p e = absurd (cc)
 both_of_parts None y p e = absurd (cc)
 
-point_at_value : (q : Position) (p : Point) → point_at q ≡ Some p → IsSame (number_of p.x) q.x × IsSame (number_of p.y) q.y
-point_at_value q p e = let parts = both_of_parts (surd_of q.x) (surd_of q.y) p e in (surd_of-value q.x p.x parts.0, surd_of-value q.y p.y parts.1)
+point_at_value : (q : Position) (p : Point) → point_at q ≡ Some p
+    → IsSame (number_of p.x) q.x × IsSame (number_of p.y) q.y
+point_at_value q p e =
+    let parts = both_of_parts (surd_of q.x) (surd_of q.y) p e
+    in (surd_of-value q.x p.x parts.0, surd_of-value q.y p.y parts.1)
 
-point_at-is : (q : Position) (p : Point) → IsSame (number_of p.x) q.x → IsSame (number_of p.y) q.y → point_at q ≡ Some p
+point_at-is : (q : Position) (p : Point) → IsSame (number_of p.x) q.x → IsSame (number_of p.y) q.y
+    → point_at q ≡ Some p
 point_at-is q p e f = ap₂ both_of (surd_of-is q.x p.x e) (surd_of-is q.y p.y f)
 
 -- points with the same coordinates are in one place
@@ -120,24 +141,38 @@ module _ (s u : Stretch) (h : s.dir < 16) (k : u.dir < 16) (apart : is_parallel 
   crossing_meets : Meets (crossing_of s u)
   crossing_meets = go (nat_lt (s.dir % 8) (u.dir % 8)) refl
     where
-      go : (b : Bool) → nat_lt (s.dir % 8) (u.dir % 8) ≡ b → Meets (cond b (meet_at s.from (s.dir % 8) u.from (u.dir % 8)) (meet_at u.from (u.dir % 8) s.from (s.dir % 8)))
+      go : (b : Bool) → nat_lt (s.dir % 8) (u.dir % 8) ≡ b
+          → Meets (cond b (meet_at s.from (s.dir % 8) u.from (u.dir % 8))
+          (meet_at u.from (u.dir % 8) s.from (s.dir % 8)))
       go true e =
           let less : s.dir % 8 < u.dir % 8 = ltb-true (s.dir % 8) (u.dir % 8) e in
           let v = meet_at s.from (s.dir % 8) u.from (u.dir % 8) in
-          meets
-          (side_from_modulo s.from s.dir v h (meet_in_first s.from (s.dir % 8) u.from (u.dir % 8) less (omega arith)), side_from_modulo u.from u.dir v k (meet_in_second s.from (s.dir % 8) u.from (u.dir % 8) less (omega arith)))
-          (λ w on. meet_only s.from (s.dir % 8) u.from (u.dir % 8) less (omega arith) w (side_modulo s.from s.dir w h on.0) (side_modulo u.from u.dir w k on.1))
+          meets (
+            side_from_modulo s.from s.dir v h
+                (meet_in_first s.from (s.dir % 8) u.from (u.dir % 8) less (omega arith)),
+            side_from_modulo u.from u.dir v k
+                (meet_in_second s.from (s.dir % 8) u.from (u.dir % 8) less (omega arith)),
+          )
+          (λ w on. meet_only s.from (s.dir % 8) u.from (u.dir % 8) less (omega arith) w
+          (side_modulo s.from s.dir w h on.0) (side_modulo u.from u.dir w k on.1))
       go false e =
           let less : u.dir % 8 < s.dir % 8 = later (s.dir % 8) (u.dir % 8) apart e in
           let v = meet_at u.from (u.dir % 8) s.from (s.dir % 8) in
-          meets
-          (side_from_modulo s.from s.dir v h (meet_in_second u.from (u.dir % 8) s.from (s.dir % 8) less (omega arith)), side_from_modulo u.from u.dir v k (meet_in_first u.from (u.dir % 8) s.from (s.dir % 8) less (omega arith)))
-          (λ w on. meet_only u.from (u.dir % 8) s.from (s.dir % 8) less (omega arith) w (side_modulo u.from u.dir w k on.1) (side_modulo s.from s.dir w h on.0))
+          meets (
+            side_from_modulo s.from s.dir v h
+                (meet_in_second u.from (u.dir % 8) s.from (s.dir % 8) less (omega arith)),
+            side_from_modulo u.from u.dir v k
+                (meet_in_first u.from (u.dir % 8) s.from (s.dir % 8) less (omega arith)),
+          )
+          (λ w on. meet_only u.from (u.dir % 8) s.from (s.dir % 8) less (omega arith) w
+          (side_modulo u.from u.dir w k on.1) (side_modulo s.from s.dir w h on.0))
 
   same_on_both : (v w : Position) → IsSame w.x v.x → IsSame w.y v.y → IsOnBoth v → IsOnBoth w
   same_on_both v w e f on =
-      let same = same_place w v e f in
-      (sym (side_to s.from s.dir w v (side_same w s.dir v same)) ∙ on.0, sym (side_to u.from u.dir w v (side_same w u.dir v same)) ∙ on.1)
+      let same = same_place w v e f in (
+        sym (side_to s.from s.dir w v (side_same w s.dir v same)) ∙ on.0,
+        sym (side_to u.from u.dir w v (side_same w u.dir v same)) ∙ on.1,
+      )
 
   common_is : common_of s u ≡ point_at (crossing_of s u)
   unfolding common_of
@@ -146,26 +181,31 @@ module _ (s u : Stretch) (h : s.dir < 16) (k : u.dir < 16) (apart : is_parallel 
   pub common_on_both : (p : Point) → common_of s u ≡ Some p → IsOnBoth (position_of p)
   common_on_both p e =
       elim crossing_meets [
-        | meets on only ↦ (let at = point_at_value (crossing_of s u) p (sym common_is ∙ e) in same_on_both (crossing_of s u) (position_of p) at.0 at.1 on)
+        | meets on only ↦ (let at = point_at_value (crossing_of s u) p (sym common_is ∙ e)
+            in same_on_both (crossing_of s u) (position_of p) at.0 at.1 on)
       ]
 
   -- a point on both lines is in its place
-  pub common_only : (p : Point) → common_of s u ≡ Some p → (v : Position) → IsOnBoth v → order_of v (position_of p) ≡ Zero
+  pub common_only : (p : Point) → common_of s u ≡ Some p → (v : Position) → IsOnBoth v
+      → order_of v (position_of p) ≡ Zero
   common_only p e v on_v =
       elim crossing_meets [
         | meets on only ↦
             (let at = point_at_value (crossing_of s u) p (sym common_is ∙ e) in
             let same = only v on_v in
             same_place v (position_of p)
-            (IsSame-trans v.x (crossing_of s u).x (number_of p.x) same.0 (IsSame-sym (number_of p.x) (crossing_of s u).x at.0))
-            (IsSame-trans v.y (crossing_of s u).y (number_of p.y) same.1 (IsSame-sym (number_of p.y) (crossing_of s u).y at.1)))
+            (IsSame-trans v.x (crossing_of s u).x (number_of p.x) same.0
+            (IsSame-sym (number_of p.x) (crossing_of s u).x at.0))
+            (IsSame-trans v.y (crossing_of s u).y (number_of p.y) same.1
+            (IsSame-sym (number_of p.y) (crossing_of s u).y at.1)))
       ]
 
   -- a point of two Surds on both lines is the common point
   pub common_some : (p : Point) → IsOnBoth (position_of p) → common_of s u ≡ Some p
   common_some p on_p =
       elim crossing_meets [
-        | meets on only ↦ (let same = only (position_of p) on_p in common_is ∙ point_at-is (crossing_of s u) p same.0 same.1)
+        | meets on only ↦ (let same = only (position_of p) on_p in common_is
+            ∙ point_at-is (crossing_of s u) p same.0 same.1)
       ]
 
   -- there is none where no point of two Surds is on both lines

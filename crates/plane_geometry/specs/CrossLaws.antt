@@ -14,30 +14,42 @@ use Rattle.plane_geometry.specs.SideLaws.{turn_sign}
 -- ---- the table
 
 agrees : ℕ → ℕ → Bool
-agrees m n = not (ltb m n) || is_zero_number (difference_of (cross_of (upper_vector m) (upper_vector n)) (unit_of (cross_tangents m n) (cross_roots m n)))
+agrees m n = not (ltb m n)
+    || is_zero_number (difference_of (cross_of (upper_vector m) (upper_vector n))
+    (unit_of (cross_tangents m n) (cross_roots m n)))
 
 table_agrees : agree_below (λ m. agree_below (agrees m) (λ _. true) 8) (λ _. true) 8 ≡ true
 unfolding agrees
 table_agrees = refl
 
 agrees_at : (m n : ℕ) → m < 8 → n < 8 → agrees m n ≡ true
-agrees_at m n few_m few_n = agree_below_at (agrees m) (λ _. true) 8 n (agree_below_at (λ m. agree_below (agrees m) (λ _. true) 8) (λ _. true) 8 m table_agrees few_m) few_n
+agrees_at m n few_m few_n =
+    agree_below_at (agrees m) (λ _. true) 8 n
+    (agree_below_at (λ m. agree_below (agrees m) (λ _. true) 8) (λ _. true) 8 m table_agrees few_m) few_n
 
-pub upper_cross : (m n : ℕ) → m < n → n < 8 → IsSame (cross_of (upper_vector m) (upper_vector n)) (unit_of (cross_tangents m n) (cross_roots m n))
+pub upper_cross : (m n : ℕ) → m < n → n < 8
+    → IsSame (cross_of (upper_vector m) (upper_vector n)) (unit_of (cross_tangents m n) (cross_roots m n))
 unfolding agrees
 upper_cross m n less few =
     let cross = cross_of (upper_vector m) (upper_vector n) in
     let unit = unit_of (cross_tangents m n) (cross_roots m n) in
-    let zero_difference : is_zero_number (difference_of cross unit) ≡ true = subst (λ b. (not b || is_zero_number (difference_of cross unit)) ≡ true) (lt-ltb m n less) (agrees_at m n (omega arith) few) in
-    same_from_difference cross unit (exact_numbers_IsRing.nought_is (difference_of cross unit) zero_difference)
+    let zero_difference : is_zero_number (difference_of cross unit)
+    ≡ true = subst (λ b. (not b || is_zero_number (difference_of cross unit)) ≡ true) (lt-ltb m n less)
+    (agrees_at m n (omega arith) few) in
+    same_from_difference cross unit
+    (exact_numbers_IsRing.nought_is (difference_of cross unit) zero_difference)
 
 pub upper_is : (n : ℕ) → n < 8 → direction_vector n ≡ upper_vector n
 upper_is n few = ap (λ b. cond b (upper_vector n) (opposite_of (upper_vector (n - 8)))) (lt-ltb n 8 few)
 
-pub direction_cross : (m n : ℕ) → m < n → n < 8 → IsSame (cross_of (direction_vector m) (direction_vector n)) (unit_of (cross_tangents m n) (cross_roots m n))
+pub direction_cross : (m n : ℕ) → m < n → n < 8
+    → IsSame (cross_of (direction_vector m) (direction_vector n))
+    (unit_of (cross_tangents m n) (cross_roots m n))
 direction_cross m n less few =
-    subst (λ d. IsSame (cross_of d (direction_vector n)) (unit_of (cross_tangents m n) (cross_roots m n))) (sym (upper_is m (omega arith)))
-    (subst (λ d. IsSame (cross_of (upper_vector m) d) (unit_of (cross_tangents m n) (cross_roots m n))) (sym (upper_is n few)) (upper_cross m n less few))
+    subst (λ d. IsSame (cross_of d (direction_vector n)) (unit_of (cross_tangents m n) (cross_roots m n)))
+    (sym (upper_is m (omega arith)))
+    (subst (λ d. IsSame (cross_of (upper_vector m) d) (unit_of (cross_tangents m n) (cross_roots m n)))
+    (sym (upper_is n few)) (upper_cross m n less few))
 
 -- ---- inverses
 
@@ -45,11 +57,18 @@ abbrev pub HasInverse : Number → Type 0
 HasInverse x = (i : Number) × IsSame (product_of i x) (whole (pos 1))
 
 inverse_same : (x y : Number) → IsSame x y → HasInverse x → HasInverse y
-inverse_same x y same h = (h.0, IsSame-trans (product_of h.0 y) (product_of h.0 x) (whole (pos 1)) (product_of-same h.0 y h.0 x (IsSame-refl h.0) (IsSame-sym x y same)) h.1)
+inverse_same x y same h = (
+  h.0,
+  IsSame-trans (product_of h.0 y) (product_of h.0 x) (whole (pos 1))
+      (product_of-same h.0 y h.0 x (IsSame-refl h.0) (IsSame-sym x y same)) h.1,
+)
 
 inverse_negative : (x : Number) → HasInverse x → HasInverse (negative_of x)
-inverse_negative x h =
-    (negative_of h.0, IsSame-trans (product_of (negative_of h.0) (negative_of x)) (product_of h.0 x) (whole (pos 1)) (number_ring (h.0 ∷ x ∷ []) ((⊖ v0) ⊗ (⊖ v1)) (v0 ⊗ v1) refl) h.1)
+inverse_negative x h = (
+  negative_of h.0,
+  IsSame-trans (product_of (negative_of h.0) (negative_of x)) (product_of h.0 x)
+      (whole (pos 1)) (number_ring (h.0 ∷ x ∷ []) ((⊖ v0) ⊗ (⊖ v1)) (v0 ⊗ v1) refl) h.1,
+)
 
 -- with an inverse, unless it is zero
 abbrev IsZeroOrUnit : Number → Type 0
@@ -65,29 +84,39 @@ cross_turned : (u v : Position) → IsSame (negative_of (cross_of u v)) (cross_o
 cross_turned u v = number_ring (u.x ∷ u.y ∷ v.x ∷ v.y ∷ []) (⊖ (v0 ⊗ v3 ⊝ v1 ⊗ v2)) (v2 ⊗ v1 ⊝ v3 ⊗ v0) refl
 
 pub cross_opposite : (u v : Position) → IsSame (negative_of (cross_of u v)) (cross_of (opposite_of u) v)
-cross_opposite u v = number_ring (u.x ∷ u.y ∷ v.x ∷ v.y ∷ []) (⊖ (v0 ⊗ v3 ⊝ v1 ⊗ v2)) ((⊖ v0) ⊗ v3 ⊝ (⊖ v1) ⊗ v2) refl
+cross_opposite u v =
+    number_ring (u.x ∷ u.y ∷ v.x ∷ v.y ∷ []) (⊖ (v0 ⊗ v3 ⊝ v1 ⊗ v2)) ((⊖ v0) ⊗ v3 ⊝ (⊖ v1) ⊗ v2) refl
 
 cross_opposite_right : (u v : Position) → IsSame (negative_of (cross_of u v)) (cross_of u (opposite_of v))
-cross_opposite_right u v = number_ring (u.x ∷ u.y ∷ v.x ∷ v.y ∷ []) (⊖ (v0 ⊗ v3 ⊝ v1 ⊗ v2)) (v0 ⊗ (⊖ v3) ⊝ v1 ⊗ (⊖ v2)) refl
+cross_opposite_right u v =
+    number_ring (u.x ∷ u.y ∷ v.x ∷ v.y ∷ []) (⊖ (v0 ⊗ v3 ⊝ v1 ⊗ v2)) (v0 ⊗ (⊖ v3) ⊝ v1 ⊗ (⊖ v2)) refl
 
 cross_itself : (u : Position) → sign_of (cross_of u u) ≡ Zero
-cross_itself u = sign_of-same (cross_of u u) (whole (pos 0)) (number_ring (u.x ∷ u.y ∷ []) (v0 ⊗ v1 ⊝ v1 ⊗ v0) (con (whole (pos 0))) refl)
+cross_itself u = sign_of-same (cross_of u u) (whole (pos 0))
+    (number_ring (u.x ∷ u.y ∷ []) (v0 ⊗ v1 ⊝ v1 ⊗ v0) (con (whole (pos 0))) refl)
 
 upper_before : (m n : ℕ) → m < n → n < 8 → IsZeroOrUnit (cross_of (upper_vector m) (upper_vector n))
 upper_before m n less few _ =
     let i = cross_tangents m n in
     let j = cross_roots m n in
     let cross = cross_of (upper_vector m) (upper_vector n) in
-    inverse_same (unit_of i j) cross (IsSame-sym cross (unit_of i j) (upper_cross m n less few))
-    (unit_inverse_of i j, IsSame-trans (product_of (unit_inverse_of i j) (unit_of i j)) (product_of (unit_of i j) (unit_inverse_of i j)) (whole (pos 1)) (number_ring (unit_of i j ∷ unit_inverse_of i j ∷ []) (v1 ⊗ v0) (v0 ⊗ v1) refl) (unit_of-inverse i j))
+    inverse_same (unit_of i j) cross (IsSame-sym cross (unit_of i j) (upper_cross m n less few)) (
+      unit_inverse_of i j,
+      IsSame-trans (product_of (unit_inverse_of i j) (unit_of i j))
+          (product_of (unit_of i j) (unit_inverse_of i j)) (whole (pos 1))
+          (number_ring (unit_of i j ∷ unit_inverse_of i j ∷ []) (v1 ⊗ v0) (v0 ⊗ v1) refl) (unit_of-inverse i j),
+    )
 
 upper_unit : (m n : ℕ) → m < 8 → n < 8 → IsZeroOrUnit (cross_of (upper_vector m) (upper_vector n))
 upper_unit m n few_m few_n =
     elim (cases_order m n) [
-      | inl e ↦ (λ k. absurd (k (ap (λ i. sign_of (cross_of (upper_vector i) (upper_vector n))) e ∙ cross_itself (upper_vector n))))
+      | inl e ↦ (λ k. absurd
+          (k (ap (λ i. sign_of (cross_of (upper_vector i) (upper_vector n))) e
+          ∙ cross_itself (upper_vector n))))
       | inr r ↦ elim r [
         | inl less ↦ upper_before m n less few_n
-        | inr more ↦ zero_or_unit_same (negative_of (cross_of (upper_vector n) (upper_vector m))) (cross_of (upper_vector m) (upper_vector n)) (cross_turned (upper_vector n) (upper_vector m))
+        | inr more ↦ zero_or_unit_same (negative_of (cross_of (upper_vector n) (upper_vector m)))
+            (cross_of (upper_vector m) (upper_vector n)) (cross_turned (upper_vector n) (upper_vector m))
             (zero_or_unit_negative (cross_of (upper_vector n) (upper_vector m)) (upper_before n m more few_m))
       ]
     ]
@@ -114,10 +143,14 @@ direction_form n = go (ltb n 8)
     go false = let f = upper_form (n - 8) in (f.0, f.1, inr (ap opposite_of f.2))
 
 opposed_right : (u v : Position) → IsZeroOrUnit (cross_of u v) → IsZeroOrUnit (cross_of u (opposite_of v))
-opposed_right u v h = zero_or_unit_same (negative_of (cross_of u v)) (cross_of u (opposite_of v)) (cross_opposite_right u v) (zero_or_unit_negative (cross_of u v) h)
+opposed_right u v h =
+    zero_or_unit_same (negative_of (cross_of u v)) (cross_of u (opposite_of v)) (cross_opposite_right u v)
+    (zero_or_unit_negative (cross_of u v) h)
 
 opposed_left : (u v : Position) → IsZeroOrUnit (cross_of u v) → IsZeroOrUnit (cross_of (opposite_of u) v)
-opposed_left u v h = zero_or_unit_same (negative_of (cross_of u v)) (cross_of (opposite_of u) v) (cross_opposite u v) (zero_or_unit_negative (cross_of u v) h)
+opposed_left u v h =
+    zero_or_unit_same (negative_of (cross_of u v)) (cross_of (opposite_of u) v) (cross_opposite u v)
+    (zero_or_unit_negative (cross_of u v) h)
 
 with_upper : (v : Position) (k : ℕ) → k < 8 → IsUpperOrOpposite v → IsZeroOrUnit (cross_of (upper_vector k) v)
 with_upper v k few f =
@@ -136,5 +169,7 @@ zero_or_unit u v f g =
     ]
 
 -- the cross product of two directions that are not parallel has an inverse
-pub turn_inverse : (m n : ℕ) → turn_sign m n ≢ Zero → HasInverse (cross_of (direction_vector m) (direction_vector n))
-turn_inverse m n turns = zero_or_unit (direction_vector m) (direction_vector n) (direction_form m) (direction_form n) turns
+pub turn_inverse : (m n : ℕ) → turn_sign m n ≢ Zero
+    → HasInverse (cross_of (direction_vector m) (direction_vector n))
+turn_inverse m n turns =
+    zero_or_unit (direction_vector m) (direction_vector n) (direction_form m) (direction_form n) turns

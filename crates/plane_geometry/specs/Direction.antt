@@ -53,7 +53,8 @@ is_zero Neg = false
 
 -- from p to q it goes in direction n
 abbrev pub is_along : ℕ → Position → Position → Bool
-is_along n p q = is_zero (side_of p n q) && is_positive (sign_of (dot_of (direction_vector n) (vector_of p q)))
+is_along n p q = is_zero (side_of p n q)
+    && is_positive (sign_of (dot_of (direction_vector n) (vector_of p q)))
 
 -- the least of the directions n, n + 1, .. in which it goes from p to q, among as many as are left
 abbrev pub direction_among : ℕ → ℕ → Position → Position → Option ℕ

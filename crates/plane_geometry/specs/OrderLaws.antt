@@ -43,14 +43,17 @@ then_equal Greater b e = cc
 -- ---- points
 
 compare_positions_total : IsTotalOrder compare_positions
-compare_positions_total = then_total (on_total (λ (p : Position). p.x) compare_of_total) (on_total (λ (p : Position). p.y) compare_of_total)
+compare_positions_total =
+    then_total (on_total (λ (p : Position). p.x) compare_of_total)
+    (on_total (λ (p : Position). p.y) compare_of_total)
 
 pub tied_points : (p q : Point) → compare_positions (position_of p) (position_of q) ≡ Equal → p ≡ q
 tied_points p q e = point_is p q (zero_is _ (sym (same_is (position_of p) (position_of q)) ∙ ap is_eq e))
 
 pub point_is_place : (p q : Point) → (p ≡ q) ↔ (is_same_position (position_of p) (position_of q) ≡ true)
 point_is_place p q = (
-  (λ e. ap is_eq (subst (λ (r : Point). compare_positions (position_of p) (position_of r) ≡ Equal) e (tied_itself compare_positions_total (position_of p)))),
+  (λ e. ap is_eq (subst (λ (r : Point). compare_positions (position_of p) (position_of r) ≡ Equal) e
+      (tied_itself compare_positions_total (position_of p)))),
   λ e. tied_points p q (equal_is _ e),
 )
 
@@ -65,13 +68,16 @@ point_test_says p q = ((λ e. (point_is_place p q).1 (sym tie ∙ e)), λ e. tie
   where
     tie : point_test p q ≡ is_eq (compare_positions (position_of p) (position_of q))
     tie =
-        both_tied (surd_test p.x q.x) (surd_test p.y q.y) (compare_of (number_of p.x) (number_of q.x)) (compare_of (number_of p.y) (number_of q.y))
+        both_tied (surd_test p.x q.x) (surd_test p.y q.y) (compare_of (number_of p.x) (number_of q.x))
+        (compare_of (number_of p.y) (number_of q.y))
         (surd_eq_is p.x q.x) (surd_eq_is p.y q.y)
 
 -- ---- segments
 
 compare_stretches_total : IsTotalOrder compare_stretches
-compare_stretches_total = then_total (on_total (λ (s : Stretch). s.from) compare_positions_total) (on_total (λ (s : Stretch). s.to) compare_positions_total)
+compare_stretches_total =
+    then_total (on_total (λ (s : Stretch). s.from) compare_positions_total)
+    (on_total (λ (s : Stretch). s.to) compare_positions_total)
 
 pub compare_segments_total : IsTotalOrder compare_segments
 compare_segments_total = on_total stretch_of compare_stretches_total
@@ -83,23 +89,32 @@ HaveSameEnds s u = (lesser_end s ≡ lesser_end u) × (greater_end s ≡ greater
 pub compare_segments-equal : (s u : Segment) → (compare_segments s u ≡ Equal) ↔ HaveSameEnds s u
 compare_segments-equal s u = (
   (λ e.
-      let k = then_equal (compare_positions (stretch_of s).from (stretch_of u).from) (compare_positions (stretch_of s).to (stretch_of u).to) e in
+      let k = then_equal (compare_positions (stretch_of s).from (stretch_of u).from)
+      (compare_positions (stretch_of s).to (stretch_of u).to) e in
       (tied_points s.from u.from k.0, tied_points s.to u.to k.1)),
-  λ h. subst (λ (t : Segment). compare_segments s t ≡ Equal) (segment_is s u h.0 h.1) (tied_itself compare_segments_total s),
+  λ h. subst (λ (t : Segment). compare_segments s t ≡ Equal) (segment_is s u h.0 h.1)
+      (tied_itself compare_segments_total s),
 )
 
 pub tied_segments : (s u : Segment) → compare_segments s u ≡ Equal → s ≡ u
 tied_segments s u e = let h = (compare_segments-equal s u).0 e in segment_is s u h.0 h.1
 
-pub segment_eq_is : (s u : Segment) → (point_test s.from u.from && (point_test s.to u.to && nat_eq s.dir.number u.dir.number)) ≡ eq_by_cmp compare_segments s u
+pub segment_eq_is : (s u : Segment)
+    → (point_test s.from u.from && (point_test s.to u.to && nat_eq s.dir.number u.dir.number))
+    ≡ eq_by_cmp compare_segments s u
 segment_eq_is s u = same_from_decides _ _ by_parts by_order
   where
-    by_parts : Decides (point_test s.from u.from && (point_test s.to u.to && nat_eq s.dir.number u.dir.number)) (HaveSameEnds s u)
+    by_parts : Decides (point_test s.from u.from
+        && (point_test s.to u.to && nat_eq s.dir.number u.dir.number)) (HaveSameEnds s u)
     by_parts =
         let d =
-        Decides-and (point_test s.from u.from) (point_test s.to u.to && nat_eq s.dir.number u.dir.number) (point_test_says s.from u.from)
-        (Decides-and (point_test s.to u.to) (nat_eq s.dir.number u.dir.number) (point_test_says s.to u.to) (Decides-eqb s.dir.number u.dir.number)) in
-        ((λ e. let k = d.0 e in (k.0, k.1.0)), λ h. d.1 (h.0, (h.1, ap (λ (t : Segment). t.dir.number) (segment_is s u h.0 h.1))))
+        Decides-and (point_test s.from u.from) (point_test s.to u.to && nat_eq s.dir.number u.dir.number)
+        (point_test_says s.from u.from)
+        (Decides-and (point_test s.to u.to) (nat_eq s.dir.number u.dir.number) (point_test_says s.to u.to)
+        (Decides-eqb s.dir.number u.dir.number)) in (
+          (λ e. let k = d.0 e in (k.0, k.1.0)),
+          λ h. d.1 (h.0, (h.1, ap (λ (t : Segment). t.dir.number) (segment_is s u h.0 h.1))),
+        )
 
     by_order : Decides (eq_by_cmp compare_segments s u) (HaveSameEnds s u)
     by_order =
@@ -119,17 +134,27 @@ before_turned s u e = ap is_lt (compare_segments_total.antisymm u s ∙ ap order
 -- ---- lines
 
 pub compare_lines_total : IsTotalOrder compare_lines
-compare_lines_total = then_total (on_total line_number nat_cmp_total) (on_total line_offset compare_wides_total)
+compare_lines_total =
+    then_total (on_total line_number nat_cmp_total) (on_total line_offset compare_wides_total)
 
 -- lines are tied exactly where they have the same points
 pub compare_lines-equal : (l m : Line) → (compare_lines l m ≡ Equal) ↔ HaveSamePoints l m
 compare_lines-equal l m = (
   (λ e.
-      let k = then_equal (nat_cmp (line_number l) (line_number m)) (compare_wides (line_offset l) (line_offset m)) e in
-      (line_is l m).0 (line_from_parts l m (ranked (line_number l) (line_number m) Equal (sym k.0)) (wide_is (line_offset l) (line_offset m) ((compare_wides-equal (line_offset l) (line_offset m)).0 k.1)))),
-  λ h. subst (λ (n : Line). compare_lines l n ≡ Equal) ((line_is l m).1 h) (tied_itself compare_lines_total l),
+      let k = then_equal (nat_cmp (line_number l) (line_number m))
+      (compare_wides (line_offset l) (line_offset m)) e in
+      (line_is l m).0 (line_from_parts l m (ranked (line_number l) (line_number m) Equal (sym k.0))
+      (wide_is (line_offset l) (line_offset m)
+      ((compare_wides-equal (line_offset l) (line_offset m)).0 k.1)))),
+  λ h. subst (λ (n : Line). compare_lines l n ≡ Equal) ((line_is l m).1 h)
+      (tied_itself compare_lines_total l),
 )
 
-pub line_eq_is : (l m : Line) → (nat_eq l.direction m.direction && (int_eq l.offset.a m.offset.a && (int_eq l.offset.b m.offset.b && nat_eq l.offset.k m.offset.k))) ≡ eq_by_cmp compare_lines l m
+pub line_eq_is : (l m : Line)
+    → (nat_eq l.direction m.direction
+    && (int_eq l.offset.a m.offset.a && (int_eq l.offset.b m.offset.b && nat_eq l.offset.k m.offset.k)))
+    ≡ eq_by_cmp compare_lines l m
 line_eq_is l m =
-    both_tied (nat_eq l.direction m.direction) _ (nat_cmp l.direction m.direction) (compare_wides l.offset m.offset) (unsigned_ties l.direction m.direction) (wide_eq_is l.offset m.offset)
+    both_tied (nat_eq l.direction m.direction) _ (nat_cmp l.direction m.direction)
+    (compare_wides l.offset m.offset) (unsigned_ties l.direction m.direction)
+    (wide_eq_is l.offset m.offset)

@@ -40,7 +40,8 @@ is_right_of p s = is_negative (side_sign p s)
 
 -- the corner after the i-th: the next one, or the first after the last
 abbrev pub next_corner_of : List Point → ℕ → Point → Point
-next_corner_of corners i d = if nat_lt (i + 1) (length corners) then slice_index_or corners (i + 1) d else slice_index_or corners 0 d
+next_corner_of corners i d =
+    if nat_lt (i + 1) (length corners) then slice_index_or corners (i + 1) d else slice_index_or corners 0 d
 
 -- the turn from one direction to the next, in steps of 22.5 degrees counterclockwise
 abbrev pub turn_of : ℕ → ℕ → ℕ

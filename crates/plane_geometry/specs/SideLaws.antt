@@ -70,7 +70,8 @@ pos_sums_then Neg = refl
 pos_sums_then Zero = refl
 pos_sums_then Pos = refl
 
-then_sums : (a b c s t r : Sgn) → may_sum a b c ≡ true → may_sum s t r ≡ true → may_sum (then_sign a s) (then_sign b t) (then_sign c r) ≡ true
+then_sums : (a b c s t r : Sgn) → may_sum a b c ≡ true → may_sum s t r ≡ true
+    → may_sum (then_sign a s) (then_sign b t) (then_sign c r) ≡ true
 then_sums Zero Zero Zero s t r e f = f
 then_sums Zero Zero Neg s t r e f = absurd (false≢true e)
 then_sums Zero Zero Pos s t r e f = absurd (false≢true e)
@@ -150,10 +151,14 @@ sign_sum x y = go (sign_of x) (sign_of y) refl refl
     go Pos Pos e f = sure Pos (sign_of (sum_of x y)) (sign_of-sum_positive x y e f)
 
 sign_without : (x y : Number) → sign_of y ≡ Zero → sign_of (sum_of x y) ≡ sign_of x
-sign_without x y e = sum_to_zero (sign_of x) (sign_of (sum_of x y)) (subst (λ t. may_sum (sign_of x) t (sign_of (sum_of x y)) ≡ true) e (sign_sum x y))
+sign_without x y e =
+    sum_to_zero (sign_of x) (sign_of (sum_of x y))
+    (subst (λ t. may_sum (sign_of x) t (sign_of (sum_of x y)) ≡ true) e (sign_sum x y))
 
 sign_left_out : (x y : Number) → sign_of x ≡ Zero → sign_of (sum_of x y) ≡ sign_of y
-sign_left_out x y e = sum_from_zero (sign_of y) (sign_of (sum_of x y)) (subst (λ s. may_sum s (sign_of y) (sign_of (sum_of x y)) ≡ true) e (sign_sum x y))
+sign_left_out x y e =
+    sum_from_zero (sign_of y) (sign_of (sum_of x y))
+    (subst (λ s. may_sum s (sign_of y) (sign_of (sum_of x y)) ≡ true) e (sign_sum x y))
 
 product_with_zero : (x y : Number) → sign_of y ≡ Zero → sign_of (product_of x y) ≡ Zero
 product_with_zero x y e = sign_of-product x y ∙ ap (times_sign (sign_of x)) e ∙ product_by_zero (sign_of x)
@@ -167,17 +172,21 @@ negative_zero x e = sign_of-negative x ∙ ap opposite_sign e
 chain_same : (x y z : Number) → IsSame (difference_of z x) (sum_of (difference_of y x) (difference_of z y))
 chain_same x y z = number_ring (x ∷ y ∷ z ∷ []) (v2 ⊝ v0) ((v1 ⊝ v0) ⊕ (v2 ⊝ v1)) refl
 
-chain_signs : (x y z : Number) → may_sum (sign_of (difference_of y x)) (sign_of (difference_of z y)) (sign_of (difference_of z x)) ≡ true
+chain_signs : (x y z : Number)
+    → may_sum (sign_of (difference_of y x)) (sign_of (difference_of z y)) (sign_of (difference_of z x)) ≡ true
 chain_signs x y z =
     subst (λ r. may_sum (sign_of (difference_of y x)) (sign_of (difference_of z y)) r ≡ true)
-    (sym (sign_of-same (difference_of z x) (sum_of (difference_of y x) (difference_of z y)) (chain_same x y z))) (sign_sum (difference_of y x) (difference_of z y))
+    (sym (sign_of-same (difference_of z x) (sum_of (difference_of y x) (difference_of z y))
+    (chain_same x y z))) (sign_sum (difference_of y x) (difference_of z y))
 
 turned_signs : (x y : Number) → sign_of (difference_of x y) ≡ opposite_sign (sign_of (difference_of y x))
 turned_signs x y =
-    sign_of-same (difference_of x y) (negative_of (difference_of y x)) (number_ring (x ∷ y ∷ []) (v0 ⊝ v1) (⊖ (v1 ⊝ v0)) refl) ∙ sign_of-negative (difference_of y x)
+    sign_of-same (difference_of x y) (negative_of (difference_of y x))
+    (number_ring (x ∷ y ∷ []) (v0 ⊝ v1) (⊖ (v1 ⊝ v0)) refl) ∙ sign_of-negative (difference_of y x)
 
 self_sign : (x : Number) → sign_of (difference_of x x) ≡ Zero
-self_sign x = sign_of-same (difference_of x x) (whole (pos 0)) (number_ring (x ∷ []) (v0 ⊝ v0) (con (whole (pos 0))) refl)
+self_sign x = sign_of-same (difference_of x x) (whole (pos 0))
+    (number_ring (x ∷ []) (v0 ⊝ v0) (con (whole (pos 0))) refl)
 
 -- ---- the order of points
 
@@ -197,25 +206,32 @@ order_self p = ap₂ then_sign (self_sign p.x) (self_sign p.y)
 
 pub order_turned : (p q : Position) → order_of q p ≡ opposite_sign (order_of p q)
 order_turned p q =
-    ap₂ then_sign (turned_signs p.x q.x) (turned_signs p.y q.y) ∙ then_opposite (sign_of (difference_of q.x p.x)) (sign_of (difference_of q.y p.y))
+    ap₂ then_sign (turned_signs p.x q.x) (turned_signs p.y q.y)
+    ∙ then_opposite (sign_of (difference_of q.x p.x)) (sign_of (difference_of q.y p.y))
 
 pub order_chain : (p q r : Position) → may_sum (order_of p q) (order_of q r) (order_of p r) ≡ true
 order_chain p q r =
-    then_sums (sign_of (difference_of q.x p.x)) (sign_of (difference_of r.x q.x)) (sign_of (difference_of r.x p.x))
-    (sign_of (difference_of q.y p.y)) (sign_of (difference_of r.y q.y)) (sign_of (difference_of r.y p.y)) (chain_signs p.x q.x r.x) (chain_signs p.y q.y r.y)
+    then_sums (sign_of (difference_of q.x p.x)) (sign_of (difference_of r.x q.x))
+    (sign_of (difference_of r.x p.x))
+    (sign_of (difference_of q.y p.y)) (sign_of (difference_of r.y q.y)) (sign_of (difference_of r.y p.y))
+    (chain_signs p.x q.x r.x) (chain_signs p.y q.y r.y)
 
 -- ---- sides
 
-cross_chain : (d p q r : Position) → IsSame (cross_of d (vector_of p r)) (sum_of (cross_of d (vector_of p q)) (cross_of d (vector_of q r)))
+cross_chain : (d p q r : Position)
+    → IsSame (cross_of d (vector_of p r)) (sum_of (cross_of d (vector_of p q)) (cross_of d (vector_of q r)))
 cross_chain d p q r =
     number_ring (d.x ∷ d.y ∷ p.x ∷ p.y ∷ q.x ∷ q.y ∷ r.x ∷ r.y ∷ [])
     (v0 ⊗ (v7 ⊝ v3) ⊝ v1 ⊗ (v6 ⊝ v2))
     ((v0 ⊗ (v5 ⊝ v3) ⊝ v1 ⊗ (v4 ⊝ v2)) ⊕ (v0 ⊗ (v7 ⊝ v5) ⊝ v1 ⊗ (v6 ⊝ v4))) refl
 
-pub side_chain : (p : Position) (n : ℕ) (q r : Position) → may_sum (side_of p n q) (side_of q n r) (side_of p n r) ≡ true
+pub side_chain : (p : Position) (n : ℕ) (q r : Position)
+    → may_sum (side_of p n q) (side_of q n r) (side_of p n r) ≡ true
 side_chain p n q r =
     let d = direction_vector n in
-    subst (λ s. may_sum (side_of p n q) (side_of q n r) s ≡ true) (sym (sign_of-same (cross_of d (vector_of p r)) (sum_of (cross_of d (vector_of p q)) (cross_of d (vector_of q r))) (cross_chain d p q r)))
+    subst (λ s. may_sum (side_of p n q) (side_of q n r) s ≡ true)
+    (sym (sign_of-same (cross_of d (vector_of p r))
+    (sum_of (cross_of d (vector_of p q)) (cross_of d (vector_of q r))) (cross_chain d p q r)))
     (sign_sum (cross_of d (vector_of p q)) (cross_of d (vector_of q r)))
 
 pub side_turned : (p : Position) (n : ℕ) (q : Position) → side_of q n p ≡ opposite_sign (side_of p n q)
@@ -228,14 +244,17 @@ side_turned p n q =
 
 -- a point on the line through p in direction n stands for p
 pub side_from : (p : Position) (n : ℕ) (q r : Position) → side_of p n q ≡ Zero → side_of p n r ≡ side_of q n r
-side_from p n q r e = sum_from_zero (side_of q n r) (side_of p n r) (subst (λ s. may_sum s (side_of q n r) (side_of p n r) ≡ true) e (side_chain p n q r))
+side_from p n q r e =
+    sum_from_zero (side_of q n r) (side_of p n r)
+    (subst (λ s. may_sum s (side_of q n r) (side_of p n r) ≡ true) e (side_chain p n q r))
 
 pub side_same : (p : Position) (n : ℕ) (q : Position) → order_of p q ≡ Zero → side_of p n q ≡ Zero
 side_same p n q e =
     let d = direction_vector n in
     let w = vector_of p q in
     let z = then_parts (sign_of w.x) (sign_of w.y) e in
-    sign_without (product_of d.x w.y) (negative_of (product_of d.y w.x)) (negative_zero (product_of d.y w.x) (product_with_zero d.y w.x z.0)) ∙ product_with_zero d.x w.y z.1
+    sign_without (product_of d.x w.y) (negative_of (product_of d.y w.x))
+    (negative_zero (product_of d.y w.x) (product_with_zero d.y w.x z.0)) ∙ product_with_zero d.x w.y z.1
 
 -- ---- vectors along a direction
 
@@ -255,45 +274,60 @@ square_opposite d = number_ring (d.x ∷ d.y ∷ []) ((⊖ v0) ⊗ (⊖ v0) ⊕ 
 pub square_sign : (n : ℕ) → sign_of (dot_of (direction_vector n) (direction_vector n)) ≡ Pos
 square_sign n = go (ltb n 8)
   where
-    go : (b : Bool) → sign_of (dot_of (cond b (upper_vector n) (opposite_of (upper_vector (n - 8)))) (cond b (upper_vector n) (opposite_of (upper_vector (n - 8))))) ≡ Pos
+    go : (b : Bool) → sign_of
+        (dot_of (cond b (upper_vector n) (opposite_of (upper_vector (n - 8))))
+        (cond b (upper_vector n) (opposite_of (upper_vector (n - 8))))) ≡ Pos
     go true = square_upper n
-    go false = sign_of-same (dot_of (opposite_of (upper_vector (n - 8))) (opposite_of (upper_vector (n - 8)))) (dot_of (upper_vector (n - 8)) (upper_vector (n - 8))) (square_opposite (upper_vector (n - 8))) ∙ square_upper (n - 8)
+    go false = sign_of-same (dot_of (opposite_of (upper_vector (n - 8))) (opposite_of (upper_vector (n - 8))))
+        (dot_of (upper_vector (n - 8)) (upper_vector (n - 8))) (square_opposite (upper_vector (n - 8)))
+        ∙ square_upper (n - 8)
 
 module _ (d w : Position) (square : sign_of (dot_of d d) ≡ Pos) (along : sign_of (cross_of d w) ≡ Zero) where
   by_square : (x y : Number) → IsSame (product_of (dot_of d d) x) y → sign_of x ≡ sign_of y
-  by_square x y e = sym (sign_of-product (dot_of d d) x ∙ ap (λ s. times_sign s (sign_of x)) square) ∙ sign_of-same (product_of (dot_of d d) x) y e
+  by_square x y e = sym (sign_of-product (dot_of d d) x ∙ ap (λ s. times_sign s (sign_of x)) square)
+      ∙ sign_of-same (product_of (dot_of d d) x) y e
 
   along_x : sign_of w.x ≡ times_sign (sign_of (dot_of d w)) (sign_of d.x)
   along_x =
       by_square w.x (sum_of (product_of (dot_of d w) d.x) (negative_of (product_of (cross_of d w) d.y)))
-      (number_ring (d.x ∷ d.y ∷ w.x ∷ w.y ∷ []) ((v0 ⊗ v0 ⊕ v1 ⊗ v1) ⊗ v2) ((v0 ⊗ v2 ⊕ v1 ⊗ v3) ⊗ v0 ⊝ (v0 ⊗ v3 ⊝ v1 ⊗ v2) ⊗ v1) refl)
-      ∙ sign_without (product_of (dot_of d w) d.x) (negative_of (product_of (cross_of d w) d.y)) (negative_zero (product_of (cross_of d w) d.y) (product_of_zero (cross_of d w) d.y along))
+      (number_ring (d.x ∷ d.y ∷ w.x ∷ w.y ∷ []) ((v0 ⊗ v0 ⊕ v1 ⊗ v1) ⊗ v2)
+      ((v0 ⊗ v2 ⊕ v1 ⊗ v3) ⊗ v0 ⊝ (v0 ⊗ v3 ⊝ v1 ⊗ v2) ⊗ v1) refl)
+      ∙ sign_without (product_of (dot_of d w) d.x) (negative_of (product_of (cross_of d w) d.y))
+      (negative_zero (product_of (cross_of d w) d.y) (product_of_zero (cross_of d w) d.y along))
       ∙ sign_of-product (dot_of d w) d.x
 
   along_y : sign_of w.y ≡ times_sign (sign_of (dot_of d w)) (sign_of d.y)
   along_y =
       by_square w.y (sum_of (product_of (dot_of d w) d.y) (product_of (cross_of d w) d.x))
-      (number_ring (d.x ∷ d.y ∷ w.x ∷ w.y ∷ []) ((v0 ⊗ v0 ⊕ v1 ⊗ v1) ⊗ v3) ((v0 ⊗ v2 ⊕ v1 ⊗ v3) ⊗ v1 ⊕ (v0 ⊗ v3 ⊝ v1 ⊗ v2) ⊗ v0) refl)
-      ∙ sign_without (product_of (dot_of d w) d.y) (product_of (cross_of d w) d.x) (product_of_zero (cross_of d w) d.x along)
+      (number_ring (d.x ∷ d.y ∷ w.x ∷ w.y ∷ []) ((v0 ⊗ v0 ⊕ v1 ⊗ v1) ⊗ v3)
+      ((v0 ⊗ v2 ⊕ v1 ⊗ v3) ⊗ v1 ⊕ (v0 ⊗ v3 ⊝ v1 ⊗ v2) ⊗ v0) refl)
+      ∙ sign_without (product_of (dot_of d w) d.y) (product_of (cross_of d w) d.x)
+      (product_of_zero (cross_of d w) d.x along)
       ∙ sign_of-product (dot_of d w) d.y
 
   pub along_lex : lex_sign w ≡ times_sign (sign_of (dot_of d w)) (lex_sign d)
   along_lex = ap₂ then_sign along_x along_y ∙ then_product (sign_of (dot_of d w)) (sign_of d.x) (sign_of d.y)
 
-  pub along_cross : (e : Position) → sign_of (cross_of e w) ≡ times_sign (sign_of (dot_of d w)) (sign_of (cross_of e d))
+  pub along_cross : (e : Position)
+      → sign_of (cross_of e w) ≡ times_sign (sign_of (dot_of d w)) (sign_of (cross_of e d))
   along_cross e =
-      by_square (cross_of e w) (sum_of (product_of (dot_of d w) (cross_of e d)) (product_of (cross_of d w) (dot_of e d)))
+      by_square (cross_of e w)
+      (sum_of (product_of (dot_of d w) (cross_of e d)) (product_of (cross_of d w) (dot_of e d)))
       (number_ring (d.x ∷ d.y ∷ w.x ∷ w.y ∷ e.x ∷ e.y ∷ [])
       ((v0 ⊗ v0 ⊕ v1 ⊗ v1) ⊗ (v4 ⊗ v3 ⊝ v5 ⊗ v2))
       ((v0 ⊗ v2 ⊕ v1 ⊗ v3) ⊗ (v4 ⊗ v1 ⊝ v5 ⊗ v0) ⊕ (v0 ⊗ v3 ⊝ v1 ⊗ v2) ⊗ (v4 ⊗ v0 ⊕ v5 ⊗ v1)) refl)
-      ∙ sign_without (product_of (dot_of d w) (cross_of e d)) (product_of (cross_of d w) (dot_of e d)) (product_of_zero (cross_of d w) (dot_of e d) along)
+      ∙ sign_without (product_of (dot_of d w) (cross_of e d)) (product_of (cross_of d w) (dot_of e d))
+      (product_of_zero (cross_of d w) (dot_of e d) along)
       ∙ sign_of-product (dot_of d w) (cross_of e d)
 
-  pub along_dot : (e : Position) → sign_of (dot_of e w) ≡ times_sign (sign_of (dot_of d w)) (sign_of (dot_of e d))
+  pub along_dot : (e : Position)
+      → sign_of (dot_of e w) ≡ times_sign (sign_of (dot_of d w)) (sign_of (dot_of e d))
   along_dot e =
-      by_square (dot_of e w) (sum_of (product_of (dot_of d w) (dot_of e d)) (product_of (cross_of d w) (cross_of d e)))
+      by_square (dot_of e w)
+      (sum_of (product_of (dot_of d w) (dot_of e d)) (product_of (cross_of d w) (cross_of d e)))
       (number_ring (d.x ∷ d.y ∷ w.x ∷ w.y ∷ e.x ∷ e.y ∷ [])
       ((v0 ⊗ v0 ⊕ v1 ⊗ v1) ⊗ (v4 ⊗ v2 ⊕ v5 ⊗ v3))
       ((v0 ⊗ v2 ⊕ v1 ⊗ v3) ⊗ (v4 ⊗ v0 ⊕ v5 ⊗ v1) ⊕ (v0 ⊗ v3 ⊝ v1 ⊗ v2) ⊗ (v0 ⊗ v5 ⊝ v1 ⊗ v4)) refl)
-      ∙ sign_without (product_of (dot_of d w) (dot_of e d)) (product_of (cross_of d w) (cross_of d e)) (product_of_zero (cross_of d w) (cross_of d e) along)
+      ∙ sign_without (product_of (dot_of d w) (dot_of e d)) (product_of (cross_of d w) (cross_of d e))
+      (product_of_zero (cross_of d w) (cross_of d e) along)
       ∙ sign_of-product (dot_of d w) (dot_of e d)

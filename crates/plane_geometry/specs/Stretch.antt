@@ -60,7 +60,8 @@ meets_at_ends s u =
 -- a part of positive length is on both: they are on one line, and each begins before the other ends
 abbrev pub is_overlapping : Stretch → Stretch → Bool
 is_overlapping s u =
-    (is_in_line u.from s && is_in_line u.to s) && (is_lt (compare_positions s.from u.to) && is_lt (compare_positions u.from s.to))
+    (is_in_line u.from s && is_in_line u.to s)
+    && (is_lt (compare_positions s.from u.to) && is_lt (compare_positions u.from s.to))
 
 -- ---- the same by points: any pairs of numbers
 
@@ -70,7 +71,8 @@ ShareAPoint s u = (p : Position) × IsTrue (is_on p s) × IsTrue (is_on p u)
 
 -- each point on both is an end of both
 abbrev pub MeetAtEnds : Stretch → Stretch → Type 0
-MeetAtEnds s u = (p : Position) → IsTrue (is_on p s) → IsTrue (is_on p u) → IsTrue (is_end p s) × IsTrue (is_end p u)
+MeetAtEnds s u = (p : Position) → IsTrue (is_on p s) → IsTrue (is_on p u)
+    → IsTrue (is_end p s) × IsTrue (is_end p u)
 
 -- two different points are on both
 abbrev pub ShareTwoPoints : Stretch → Stretch → Type 0

@@ -64,25 +64,35 @@ pos_last Zero r e f = sum_from_zero Pos r f
 pos_last Pos Pos e f = refl
 pos_last Pos _ e f = absurd (false≢true f)
 
-pub before_then : (p q r : Position) → order_of p q ≡ Pos → is_negative (order_of q r) ≡ false → order_of p r ≡ Pos
-before_then p q r e f = pos_first (order_of q r) (order_of p r) f (subst (λ s. may_sum s (order_of q r) (order_of p r) ≡ true) e (order_chain p q r))
+pub before_then : (p q r : Position) → order_of p q ≡ Pos → is_negative (order_of q r) ≡ false
+    → order_of p r ≡ Pos
+before_then p q r e f =
+    pos_first (order_of q r) (order_of p r) f
+    (subst (λ s. may_sum s (order_of q r) (order_of p r) ≡ true) e (order_chain p q r))
 
-pub then_before : (p q r : Position) → is_negative (order_of p q) ≡ false → order_of q r ≡ Pos → order_of p r ≡ Pos
-then_before p q r e f = pos_last (order_of p q) (order_of p r) e (subst (λ s. may_sum (order_of p q) s (order_of p r) ≡ true) f (order_chain p q r))
+pub then_before : (p q r : Position) → is_negative (order_of p q) ≡ false → order_of q r ≡ Pos
+    → order_of p r ≡ Pos
+then_before p q r e f =
+    pos_last (order_of p q) (order_of p r) e
+    (subst (λ s. may_sum (order_of p q) s (order_of p r) ≡ true) f (order_chain p q r))
 
 -- points that are the same have the same place in the order
 pub order_from : (p q r : Position) → order_of p q ≡ Zero → order_of p r ≡ order_of q r
-order_from p q r e = sum_from_zero (order_of q r) (order_of p r) (subst (λ s. may_sum s (order_of q r) (order_of p r) ≡ true) e (order_chain p q r))
+order_from p q r e =
+    sum_from_zero (order_of q r) (order_of p r)
+    (subst (λ s. may_sum s (order_of q r) (order_of p r) ≡ true) e (order_chain p q r))
 
 pub order_to : (p q r : Position) → order_of q r ≡ Zero → order_of p r ≡ order_of p q
-order_to p q r e = sum_to_zero (order_of p q) (order_of p r) (subst (λ s. may_sum (order_of p q) s (order_of p r) ≡ true) e (order_chain p q r))
+order_to p q r e = sum_to_zero (order_of p q) (order_of p r)
+    (subst (λ s. may_sum (order_of p q) s (order_of p r) ≡ true) e (order_chain p q r))
 
 pub turned_zero : (p q : Position) → order_of p q ≡ Zero → order_of q p ≡ Zero
 turned_zero p q e = order_turned p q ∙ ap opposite_sign e
 
 -- and are on the same side
 pub side_to : (p : Position) (n : ℕ) (q r : Position) → side_of q n r ≡ Zero → side_of p n r ≡ side_of p n q
-side_to p n q r e = sum_to_zero (side_of p n q) (side_of p n r) (subst (λ s. may_sum (side_of p n q) s (side_of p n r) ≡ true) e (side_chain p n q r))
+side_to p n q r e = sum_to_zero (side_of p n q) (side_of p n r)
+    (subst (λ s. may_sum (side_of p n q) s (side_of p n r) ≡ true) e (side_chain p n q r))
 
 pub side_self : (p : Position) (n : ℕ) → side_of p n p ≡ Zero
 side_self p n = side_same p n p (order_self p)
@@ -95,7 +105,9 @@ pub record LiesOn (p : Position) (s : Stretch) : Type 0 where
   pub after_from : is_negative (order_of s.from p) ≡ false
   pub before_to : is_negative (order_of p s.to) ≡ false
 
-on_table : (z a b : Sgn) → (a ≡ Zero → z ≡ Zero) → (b ≡ Zero → z ≡ Zero) → may_sum a b Pos ≡ true → ((is_zero a || is_zero b) || (is_zero z && (is_positive a && is_positive b))) ≡ (is_zero z && (not (is_negative a) && not (is_negative b)))
+on_table : (z a b : Sgn) → (a ≡ Zero → z ≡ Zero) → (b ≡ Zero → z ≡ Zero) → may_sum a b Pos ≡ true
+    → ((is_zero a || is_zero b) || (is_zero z && (is_positive a && is_positive b)))
+    ≡ (is_zero z && (not (is_negative a) && not (is_negative b)))
 on_table z Neg Neg f g e = absurd (false≢true e)
 on_table z Neg Zero f g e = absurd (false≢true e)
 on_table Neg Neg Pos f g e = refl
@@ -123,21 +135,30 @@ ends_order s h = positive_is (order_of s.from s.to) (sym (before_is s.from s.to)
 pub to_in_line : (s : Stretch) → IsStretch s → side_of s.from s.dir s.to ≡ Zero
 to_in_line s h = zero_is (side_of s.from s.dir s.to) (and_parts (is_zero (side_of s.from s.dir s.to)) _ h.1).0
 
-pub along_sign : (s : Stretch) → IsStretch s → sign_of (dot_of (direction_vector s.dir) (vector_of s.from s.to)) ≡ Pos
+pub along_sign : (s : Stretch) → IsStretch s
+    → sign_of (dot_of (direction_vector s.dir) (vector_of s.from s.to)) ≡ Pos
 along_sign s h = positive_is _ (and_parts (is_zero (side_of s.from s.dir s.to)) _ h.1).1
 
-pub end_is : (p : Position) (s : Stretch) → is_end p s ≡ (is_zero (order_of s.from p) || is_zero (order_of p s.to))
+pub end_is : (p : Position) (s : Stretch)
+    → is_end p s ≡ (is_zero (order_of s.from p) || is_zero (order_of p s.to))
 end_is p s = ap₂ ◌||◌ (same_is_turned p s.from) (same_is p s.to)
 
-between_is : (p : Position) (s : Stretch) → is_between p s ≡ (is_zero (side_of s.from s.dir p) && (is_positive (order_of s.from p) && is_positive (order_of p s.to)))
-between_is p s = ap (λ (b : Bool). is_zero (side_of s.from s.dir p) && b) (ap₂ ◌&&◌ (before_is s.from p) (before_is p s.to))
+between_is : (p : Position) (s : Stretch)
+    → is_between p s ≡ (is_zero (side_of s.from s.dir p)
+    && (is_positive (order_of s.from p) && is_positive (order_of p s.to)))
+between_is p s = ap (λ (b : Bool). is_zero (side_of s.from s.dir p) && b)
+    (ap₂ ◌&&◌ (before_is s.from p) (before_is p s.to))
 
-on_is : (p : Position) (s : Stretch) → IsStretch s → is_on p s ≡ (is_zero (side_of s.from s.dir p) && (not (is_negative (order_of s.from p)) && not (is_negative (order_of p s.to))))
+on_is : (p : Position) (s : Stretch) → IsStretch s
+    → is_on p s ≡ (is_zero (side_of s.from s.dir p)
+    && (not (is_negative (order_of s.from p)) && not (is_negative (order_of p s.to))))
 on_is p s h =
     ap₂ ◌||◌ (end_is p s) (between_is p s)
-    ∙ on_table (side_of s.from s.dir p) (order_of s.from p) (order_of p s.to) (λ e. side_same s.from s.dir p e)
+    ∙ on_table (side_of s.from s.dir p) (order_of s.from p) (order_of p s.to)
+    (λ e. side_same s.from s.dir p e)
     (λ e. sym (side_to s.from s.dir p s.to (side_same p s.dir s.to e)) ∙ to_in_line s h)
-    (subst (λ r. may_sum (order_of s.from p) (order_of p s.to) r ≡ true) (ends_order s h) (order_chain s.from p s.to))
+    (subst (λ r. may_sum (order_of s.from p) (order_of p s.to) r ≡ true) (ends_order s h)
+    (order_chain s.from p s.to))
 
 pub on_parts : (p : Position) (s : Stretch) → IsStretch s → is_on p s ≡ true → LiesOn p s
 on_parts p s h e =
@@ -147,9 +168,11 @@ on_parts p s h e =
 
 pub on_from_parts : (p : Position) (s : Stretch) → IsStretch s → LiesOn p s → is_on p s ≡ true
 on_from_parts p s h l =
-    on_is p s h ∙ and_from _ _ (ap is_zero l.in_line) (and_from _ _ (not_from_false _ l.after_from) (not_from_false _ l.before_to))
+    on_is p s h ∙ and_from _ _ (ap is_zero l.in_line)
+    (and_from _ _ (not_from_false _ l.after_from) (not_from_false _ l.before_to))
 
-pub end_parts : (p : Position) (s : Stretch) → is_end p s ≡ true → (order_of s.from p ≡ Zero) ⊎ (order_of p s.to ≡ Zero)
+pub end_parts : (p : Position) (s : Stretch) → is_end p s ≡ true
+    → (order_of s.from p ≡ Zero) ⊎ (order_of p s.to ≡ Zero)
 end_parts p s e =
     elim (or_cases _ _ (sym (end_is p s) ∙ e)) [ inl l ↦ inl (zero_is _ l) | inr r ↦ inr (zero_is _ r) ]
 

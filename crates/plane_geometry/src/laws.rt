@@ -51,5 +51,6 @@ pub fn points_are_their_places()
 /// Segments are equal, and their order ties them, exactly where they have the same ends.
 pub fn segments_are_their_ends()
     ensures equal { (s u : Segment) → (s ≡ u) ↔ HasEnds s (lesser_end u) (greater_end u) }
-    ensures tied { (s u : Segment) → (compare_segments s u ≡ Equal) ↔ HasEnds s (lesser_end u) (greater_end u) }
+    ensures tied { (s u : Segment)
+        → (compare_segments s u ≡ Equal) ↔ HasEnds s (lesser_end u) (greater_end u) }
 {}

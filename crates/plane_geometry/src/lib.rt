@@ -123,7 +123,8 @@ impl Segment {
     fn in_order(from: &Point, to: &Point) -> Result<Segment, SegmentFault>
         requires { ComesBefore from.now to.now }
         ensures ends { MatchResult result (λ s. HasEnds s from.now to.now)
-            (λ e. (e ≡ SegmentFault.BadDirection) × HasNoDirection (position_of from.now) (position_of to.now)) }
+            (λ e. (e ≡ SegmentFault.BadDirection)
+            × HasNoDirection (position_of from.now) (position_of to.now)) }
         ensures value { result_ok result ≡ segment_from from.now to.now }
     {
         match direction(from, to) {
@@ -206,7 +207,8 @@ impl PartialOrd for Segment {
 
     ghost partial_cmp = { as_partial_cmp compare_segments };
 
-    ghost laws = { partial_order_from_agreeing_total compare_segments compare_segments_total (λ _ _. refl) segment_eq_is };
+    ghost laws = { partial_order_from_agreeing_total compare_segments compare_segments_total
+        (λ _ _. refl) segment_eq_is };
 
     fn partial_cmp(&self, other: &Segment) -> Option<Ordering> {
         Some(self.cmp(other))
@@ -293,7 +295,8 @@ impl PartialOrd for Line {
 
     ghost partial_cmp = { as_partial_cmp compare_lines };
 
-    ghost laws = { partial_order_from_agreeing_total compare_lines compare_lines_total (λ _ _. refl) line_eq_is };
+    ghost laws = { partial_order_from_agreeing_total compare_lines compare_lines_total
+        (λ _ _. refl) line_eq_is };
 
     fn partial_cmp(&self, other: &Line) -> Option<Ordering> {
         Some(self.cmp(other))

@@ -15,7 +15,8 @@ use Rattle.script_lang.specs.Laws.{numbered_lines, PrintedPatternsAreLoaded, Pri
 abbrev line_loaded : CpLine → PlainLine
 line_loaded line = record { kind = line.kind; from = line.from; to = line.to }
 
-without_numbers : (n : ℕ) (lines : List CpLine) → map plain_line (numbered_lines n lines) ≡ map line_loaded lines
+without_numbers : (n : ℕ) (lines : List CpLine)
+    → map plain_line (numbered_lines n lines) ≡ map line_loaded lines
 without_numbers n [] = refl
 without_numbers n (line ∷ lines) = ap (λ ls. line_loaded line ∷ ls) (without_numbers (n + 1) lines)
 
@@ -27,21 +28,27 @@ pieces_are : (pieces : List Piece) → map line_loaded (map line_of_piece pieces
 pieces_are [] = refl
 pieces_are (p ∷ ps) = ap (λ ls. piece_line p ∷ ls) (pieces_are ps)
 
-auxiliary_are : (lines : List Segment) → map line_loaded (map line_of_auxiliary lines) ≡ map auxiliary_line lines
+auxiliary_are : (lines : List Segment)
+    → map line_loaded (map line_of_auxiliary lines) ≡ map auxiliary_line lines
 auxiliary_are [] = refl
 auxiliary_are (s ∷ ss) = ap (λ ls. auxiliary_line s ∷ ls) (auxiliary_are ss)
 
 lines_are_own : (p : PatternView) → map line_loaded (pattern_lines p) ≡ own_lines p
 lines_are_own p =
-    ap (map line_loaded) (append_assoc (map line_of_side (sides_of p.corners)) (map line_of_piece p.pieces) (map line_of_auxiliary p.aux))
-    ∙ map-append line_loaded (map line_of_side (sides_of p.corners)) (map line_of_piece p.pieces ++ map line_of_auxiliary p.aux)
+    ap (map line_loaded)
+    (append_assoc (map line_of_side (sides_of p.corners)) (map line_of_piece p.pieces)
+    (map line_of_auxiliary p.aux))
+    ∙ map-append line_loaded (map line_of_side (sides_of p.corners))
+    (map line_of_piece p.pieces ++ map line_of_auxiliary p.aux)
     ∙ ap₂ ◌++◌ (sides_are (sides_of p.corners))
-    (map-append line_loaded (map line_of_piece p.pieces) (map line_of_auxiliary p.aux) ∙ ap₂ ◌++◌ (pieces_are p.pieces) (auxiliary_are p.aux))
+    (map-append line_loaded (map line_of_piece p.pieces) (map line_of_auxiliary p.aux)
+    ∙ ap₂ ◌++◌ (pieces_are p.pieces) (auxiliary_are p.aux))
 
 pub printed_patterns_come_back : PrintedPatternsAreLoaded → OwnLinesAreLoaded → PrintedPatternsComeBack
 printed_patterns_come_back printed own p other rest rules sheet same =
     record {
       lines = numbered_lines 1 (pattern_lines p);
       command = printed p rest;
-      loaded = own p other (numbered_lines 1 (pattern_lines p)) rules sheet same (without_numbers 1 (pattern_lines p) ∙ lines_are_own p);
+      loaded = own p other (numbered_lines 1 (pattern_lines p)) rules sheet same
+          (without_numbers 1 (pattern_lines p) ∙ lines_are_own p);
     }

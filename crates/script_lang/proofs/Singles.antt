@@ -16,10 +16,12 @@ both_true : (b c : Bool) → (b && c) ≡ true → (b ≡ true) × (c ≡ true)
 both_true true c h = (refl, h)
 both_true false c h = absurd (cc h)
 
-load_words : (line : List ℕ) (words : List (List ℕ)) → is_only (codes "load") words ≡ true → nat_lt longest_line (length line) ≡ false → words_command line words ≡ Some (Load [] Unended)
+load_words : (line : List ℕ) (words : List (List ℕ)) → is_only (codes "load") words ≡ true
+    → nat_lt longest_line (length line) ≡ false → words_command line words ≡ Some (Load [] Unended)
 load_words line [] h short = absurd (cc h)
 load_words line (word ∷ []) h short =
-    ap (λ w. words_command line (w ∷ [])) ((bytes_eq-Decides word (codes "load")).0 h) ∙ ap (λ b. Some (cond b (Bad LongLine) (Load [] Unended))) short
+    ap (λ w. words_command line (w ∷ [])) ((bytes_eq-Decides word (codes "load")).0 h)
+    ∙ ap (λ b. Some (cond b (Bad LongLine) (Load [] Unended))) short
 load_words line (word ∷ v ∷ words) h short = absurd (cc h)
 
 load_judged : (line : List ℕ) → is_load_line line ≡ true → command_of line ≡ Some (Load [] Unended)
@@ -36,6 +38,7 @@ alone (Some command) = refl
 pub single_lines_are_judged : SingleLinesAreJudged
 single_lines_are_judged line = go (is_load_line line) refl
   where
-    go : (b : Bool) → is_load_line line ≡ b → cond b (block_of [] ∷ []) (cons_option (command_of line) []) ≡ option_to_list (command_of line)
+    go : (b : Bool) → is_load_line line ≡ b
+        → cond b (block_of [] ∷ []) (cons_option (command_of line) []) ≡ option_to_list (command_of line)
     go true h = ap option_to_list (sym (load_judged line h))
     go false h = alone (command_of line)

@@ -42,13 +42,15 @@ set_kind (Some kind) ends = if is_crease_kind kind then set_between kind ends el
 -- a kind and two ends
 abbrev pub set_words : List (List ℕ) → Command
 set_words [] = Bad WrongCount
-set_words (kind ∷ words) = if nat_eq (length words) 4 then set_kind (kind_of kind) (ends_read 2 words) else Bad WrongCount
+set_words (kind ∷ words) =
+    if nat_eq (length words) 4 then set_kind (kind_of kind) (ends_read 2 words) else Bad WrongCount
 
 -- two words for each of 3 to 16 points
 abbrev pub is_sheet_count : ℕ → Bool
 is_sheet_count n = nat_le 6 n && nat_le n 32 && nat_eq (n % 2) 0
 
-abbrev pub point_before : Result Point LineFault → Result (List Point) LineFault → Result (List Point) LineFault
+abbrev pub point_before : Result Point LineFault → Result (List Point) LineFault
+    → Result (List Point) LineFault
 point_before (Ok point) (Ok points) = Ok (point ∷ points)
 point_before (Ok point) (Err fault) = Err fault
 point_before (Err fault) points = Err fault
@@ -64,7 +66,8 @@ sheet_command (Ok points) = Sheet points
 sheet_command (Err fault) = Bad fault
 
 abbrev pub sheet_words : List (List ℕ) → Command
-sheet_words words = if is_sheet_count (length words) then sheet_command (points_read 1 words) else Bad WrongCount
+sheet_words words = if is_sheet_count (length words) then sheet_command (points_read 1 words)
+    else Bad WrongCount
 
 -- a line `load` by itself is a block without lines and without its end
 abbrev pub word_command : List ℕ → List (List ℕ) → Command

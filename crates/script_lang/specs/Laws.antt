@@ -27,14 +27,17 @@ has_no_end lines = list_all (λ line. not (is_end_line line)) lines
 
 -- the commands of a script without a line `load` are its judged lines in order, blank ones left out
 abbrev pub PlainLinesAreJudged : Type 0
-PlainLinesAreJudged = (bytes : List ℕ) → IsTrue (has_no_load (bare_lines bytes)) → commands_of bytes ≡ filter_map command_of (bare_lines bytes)
+PlainLinesAreJudged =
+    (bytes : List ℕ) → IsTrue (has_no_load (bare_lines bytes))
+    → commands_of bytes ≡ filter_map command_of (bare_lines bytes)
 
 -- what stands between `load` and the first `end` is one command, after those of the lines before, and before those of
 -- the lines behind
 abbrev pub BlocksAreOneCommand : Type 0
 BlocksAreOneCommand =
     (before inside behind : List (List ℕ)) (load end : List ℕ)
-    → IsTrue (has_no_load before) → IsTrue (is_load_line load) → IsTrue (has_no_end inside) → IsTrue (is_end_line end)
+    → IsTrue (has_no_load before) → IsTrue (is_load_line load) → IsTrue (has_no_end inside)
+    → IsTrue (is_end_line end)
     → commands_from false (before ++ load ∷ (inside ++ end ∷ behind))
     ≡ filter_map command_of before ++ block_command inside Ended ∷ commands_from false behind
 
@@ -43,7 +46,8 @@ abbrev pub OpenBlocksAreOneCommand : Type 0
 OpenBlocksAreOneCommand =
     (before inside : List (List ℕ)) (load : List ℕ)
     → IsTrue (has_no_load before) → IsTrue (is_load_line load) → IsTrue (has_no_end inside)
-    → commands_from false (before ++ load ∷ inside) ≡ filter_map command_of before ++ block_command inside Unended ∷ []
+    → commands_from false (before ++ load ∷ inside) ≡ filter_map command_of before
+    ++ block_command inside Unended ∷ []
 
 abbrev pub is_good : Option (Result CpLine LineFault) → Bool
 is_good None = true
@@ -59,7 +63,8 @@ abbrev pub FirstBadLineStops : Type 0
 FirstBadLineStops =
     (good rest : List (List ℕ)) (line : List ℕ) (fault : LineFault) (ending : LoadStop)
     → IsTrue (are_good good) → block_read line ≡ Some (Err fault)
-    → block_command (good ++ line ∷ rest) ending ≡ Load (lines_before 1 (map block_read good)) (Bad (length good + 1) fault)
+    → block_command (good ++ line ∷ rest) ending
+    ≡ Load (lines_before 1 (map block_read good)) (Bad (length good + 1) fault)
 
 -- without a bad line a block stops as it ends
 abbrev pub GoodLinesAreLoaded : Type 0
@@ -86,7 +91,8 @@ PrintedPatternsAreLoaded =
 -- the text of the pattern, put between `load` and `end`, is one command, whose lines load as that pattern
 pub record ComesBack (p other : PatternView) (rest : List ℕ) : Type 0 where
   pub lines : List LoadLine
-  pub command : commands_of (codes "load\n" ++ (pattern_text p ++ (codes "end\n" ++ rest))) ≡ Load lines Ended ∷ commands_of rest
+  pub command : commands_of (codes "load\n" ++ (pattern_text p ++ (codes "end\n" ++ rest)))
+      ≡ Load lines Ended ∷ commands_of rest
   pub loaded : load_of other lines ≡ Ok p
 
 -- each pattern's text does so where its sheet is in force, whatever stands on it

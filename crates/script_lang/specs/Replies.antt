@@ -94,7 +94,10 @@ refusal_text refusal = plain_text refusal ++ cause_text (refusal_cause refusal)
 
 -- a line with its line feed
 abbrev pub head_text : Reply → List ℕ
-head_text (Version version pieces) = codes "version " ++ decimal version ++ codes " pieces " ++ decimal pieces ++ codes "\n"
-head_text (Listed version pieces) = codes "list " ++ decimal version ++ codes " " ++ decimal pieces ++ codes "\n"
-head_text (Checked version faults) = codes "check " ++ decimal version ++ codes " " ++ decimal faults ++ codes "\n"
+head_text (Version version pieces) =
+    codes "version " ++ decimal version ++ codes " pieces " ++ decimal pieces ++ codes "\n"
+head_text (Listed version pieces) =
+    codes "list " ++ decimal version ++ codes " " ++ decimal pieces ++ codes "\n"
+head_text (Checked version faults) =
+    codes "check " ++ decimal version ++ codes " " ++ decimal faults ++ codes "\n"
 head_text (Refused refusal) = codes "refused " ++ refusal_text refusal ++ codes "\n"

@@ -73,7 +73,8 @@ stop_at n (Some (Err fault) ∷ answers) ending = Bad n fault
 
 -- the command of the lines of a block, blank ones counted
 abbrev pub block_command : List (List ℕ) → LoadStop → Command
-block_command lines ending = Load (lines_before 1 (map block_read lines)) (stop_at 1 (map block_read lines) ending)
+block_command lines ending =
+    Load (lines_before 1 (map block_read lines)) (stop_at 1 (map block_read lines) ending)
 
 -- the command of the block that begins with these lines
 abbrev pub block_of : List (List ℕ) → Command

@@ -112,7 +112,8 @@ fn numbered(number: u32, line: CpLine) -> LoadLine
 
 // What follows the block that begins with this text.
 fn after_block(text: &[u8]) -> &[u8]
-    ensures commands { commands_from false (bare_lines result.now) ≡ commands_from true (bare_lines text.now) }
+    ensures commands { commands_from false (bare_lines result.now)
+        ≡ commands_from true (bare_lines text.now) }
     ensures lines { length (bare_lines result.now) ≤ length (bare_lines text.now) }
 {
     let mut rest = text;

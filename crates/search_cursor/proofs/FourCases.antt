@@ -9,12 +9,14 @@ use Rattle.search_cursor.specs.Cases.{IsBefore, same, front, back, over}
 at : List Sign → Bool → Place
 at s x = record { signs = s; past = x }
 
-longer : (sign : Sign) (s r : List Sign) (x y : Bool) → IsBefore (at s x) (at r y) → IsBefore (at (sign ∷ s) x) (at (sign ∷ r) y)
+longer : (sign : Sign) (s r : List Sign) (x y : Bool) → IsBefore (at s x) (at r y)
+    → IsBefore (at (sign ∷ s) x) (at (sign ∷ r) y)
 unfolding at
 longer sign s r x y (same e f g) = same (ap (λ l. sign ∷ l) e) f g
 longer sign s r x y (front next rest e f) = front next rest (ap (λ l. sign ∷ l) e) f
 longer sign s r x y (back next rest e f) = back next rest (ap (λ l. sign ∷ l) e) f
-longer sign s r x y (over common rest others e f) = over (sign ∷ common) rest others (ap (λ l. sign ∷ l) e) (ap (λ l. sign ∷ l) f)
+longer sign s r x y (over common rest others e f) =
+    over (sign ∷ common) rest others (ap (λ l. sign ∷ l) e) (ap (λ l. sign ∷ l) f)
 
 cases_of : (s r : List Sign) (x y : Bool) → stands_before s x r y ≡ true → IsBefore (at s x) (at r y)
 unfolding at
@@ -27,17 +29,20 @@ cases_of (Over ∷ s) (Under ∷ r) x y h = over [] s r refl refl
 cases_of (Under ∷ s) (Over ∷ r) x y h = absurd (true≢false (sym h))
 
 -- a common front says nothing of the order
-stands_before-append : (common s r : List Sign) (x y : Bool) → stands_before (common ++ s) x (common ++ r) y ≡ stands_before s x r y
+stands_before-append : (common s r : List Sign) (x y : Bool)
+    → stands_before (common ++ s) x (common ++ r) y ≡ stands_before s x r y
 stands_before-append [] s r x y = refl
 stands_before-append (Over ∷ common) s r x y = stands_before-append common s r x y
 stands_before-append (Under ∷ common) s r x y = stands_before-append common s r x y
 
-before_front : (s : List Sign) (sign : Sign) (rest : List Sign) (y : Bool) → stands_before s false (s ++ sign ∷ rest) y ≡ true
+before_front : (s : List Sign) (sign : Sign) (rest : List Sign) (y : Bool)
+    → stands_before s false (s ++ sign ∷ rest) y ≡ true
 before_front [] sign rest y = refl
 before_front (Over ∷ s) sign rest y = before_front s sign rest y
 before_front (Under ∷ s) sign rest y = before_front s sign rest y
 
-after_front : (s : List Sign) (sign : Sign) (rest : List Sign) (x : Bool) → stands_before (s ++ sign ∷ rest) x s true ≡ true
+after_front : (s : List Sign) (sign : Sign) (rest : List Sign) (x : Bool)
+    → stands_before (s ++ sign ∷ rest) x s true ≡ true
 after_front [] sign rest x = refl
 after_front (Over ∷ s) sign rest x = after_front s sign rest x
 after_front (Under ∷ s) sign rest x = after_front s sign rest x

@@ -5,7 +5,8 @@ use Rattle.sign_rules.specs.declared.sign.Sign.{Sign}
 use Rattle.sign_rules.specs.declared.sign.Sign.TheVariants.{Over, Under}
 use Rattle.search_cursor.specs.Place.{Place, stands_before, is_passed, list_before, begins_with}
 
-pub transitive : (s r t : List Sign) (x y z : Bool) → stands_before s x r y ≡ true → stands_before r y t z ≡ true → stands_before s x t z ≡ true
+pub transitive : (s r t : List Sign) (x y z : Bool) → stands_before s x r y ≡ true
+    → stands_before r y t z ≡ true → stands_before s x t z ≡ true
 transitive [] [] t true y z h k = absurd (true≢false (sym h))
 transitive [] [] t false false z h k = absurd (true≢false (sym h))
 transitive [] [] [] false true z h k = absurd (true≢false (sym k))
@@ -30,7 +31,8 @@ behind sign s r x y (inl h) = inl h
 behind sign s r x y (inr (inl e)) = inr (inl (ap (λ l. sign ∷ l) e.0, e.1))
 behind sign s r x y (inr (inr h)) = inr (inr h)
 
-pub total : (s r : List Sign) (x y : Bool) → (stands_before s x r y ≡ true) ⊎ (((s ≡ r) × (x ≡ y)) ⊎ (stands_before r y s x ≡ true))
+pub total : (s r : List Sign) (x y : Bool)
+    → (stands_before s x r y ≡ true) ⊎ (((s ≡ r) × (x ≡ y)) ⊎ (stands_before r y s x ≡ true))
 total [] [] true true = inr (inl (refl, refl))
 total [] [] true false = inr (inr refl)
 total [] [] false true = inl refl

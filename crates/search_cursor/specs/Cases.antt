@@ -12,4 +12,5 @@ pub data IsBefore (p q : Place) : Type 0 where
   -- the other signs are a proper front of the first, and the other place is after what begins with them
   back : (sign : Sign) (rest : List Sign) → p.signs ≡ q.signs ++ sign ∷ rest → q.past ≡ true → IsBefore p q
   -- the first have Over at the first difference
-  over : (common rest others : List Sign) → p.signs ≡ common ++ Over ∷ rest → q.signs ≡ common ++ Under ∷ others → IsBefore p q
+  over : (common rest others : List Sign) → p.signs ≡ common ++ Over ∷ rest
+      → q.signs ≡ common ++ Under ∷ others → IsBefore p q

@@ -32,7 +32,8 @@ end-before [] = refl
 end-before (_ ∷ _) = refl
 
 -- right after all with Over is right before all with Under
-pub passed-turn : (list s : List Sign) → is_passed list (s ++ Under ∷ []) false ≡ is_passed list (s ++ Over ∷ []) true
+pub passed-turn : (list s : List Sign)
+    → is_passed list (s ++ Under ∷ []) false ≡ is_passed list (s ++ Over ∷ []) true
 passed-turn [] [] = refl
 passed-turn (Over ∷ list) [] = sym (end-after list)
 passed-turn (Under ∷ list) [] = end-before list
@@ -54,7 +55,8 @@ passed-climb (Over ∷ list) (Under ∷ s) = refl
 passed-climb (Under ∷ list) (Over ∷ s) = refl
 
 -- on the way down to Over only the list itself is passed
-pub passed-down : (list s : List Sign) → is_passed list (s ++ Over ∷ []) false ≡ (is_passed list s false || is_list list s)
+pub passed-down : (list s : List Sign)
+    → is_passed list (s ++ Over ∷ []) false ≡ (is_passed list s false || is_list list s)
 passed-down [] [] = refl
 passed-down (Over ∷ list) [] = end-before list
 passed-down (Under ∷ list) [] = refl
@@ -65,7 +67,8 @@ passed-down (Over ∷ list) (Under ∷ s) = refl
 passed-down (Under ∷ list) (Over ∷ s) = refl
 
 -- from before to after, what begins with the signs is passed
-pub passed-past : (list s : List Sign) → is_passed list s true ≡ (is_passed list s false || begins_with s list)
+pub passed-past : (list s : List Sign)
+    → is_passed list s true ≡ (is_passed list s false || begins_with s list)
 passed-past [] [] = refl
 passed-past (_ ∷ list) [] = refl
 passed-past [] (_ ∷ s) = refl
@@ -75,11 +78,14 @@ passed-past (Over ∷ list) (Under ∷ s) = refl
 passed-past (Under ∷ list) (Over ∷ s) = refl
 
 -- what begins with a front has something behind it
-pub begins_with-split : (front list : List Sign) → begins_with front list ≡ true → (rest : List Sign) × (list ≡ front ++ rest)
+pub begins_with-split : (front list : List Sign) → begins_with front list ≡ true
+    → (rest : List Sign) × (list ≡ front ++ rest)
 begins_with-split [] list e = (list, refl)
 begins_with-split (_ ∷ front) [] e = absurd (true≢false (sym e))
-begins_with-split (Over ∷ front) (Over ∷ list) e = let s = begins_with-split front list e in (s.0, ap (λ l. Over ∷ l) s.1)
-begins_with-split (Under ∷ front) (Under ∷ list) e = let s = begins_with-split front list e in (s.0, ap (λ l. Under ∷ l) s.1)
+begins_with-split (Over ∷ front) (Over ∷ list) e =
+    let s = begins_with-split front list e in (s.0, ap (λ l. Over ∷ l) s.1)
+begins_with-split (Under ∷ front) (Under ∷ list) e =
+    let s = begins_with-split front list e in (s.0, ap (λ l. Under ∷ l) s.1)
 begins_with-split (Over ∷ front) (Under ∷ list) e = absurd (true≢false (sym e))
 begins_with-split (Under ∷ front) (Over ∷ list) e = absurd (true≢false (sym e))
 
@@ -102,7 +108,8 @@ is_list-refl [] = refl
 is_list-refl (Over ∷ list) = is_list-refl list
 is_list-refl (Under ∷ list) = is_list-refl list
 
-pub begins_with-longer : (front list rest : List Sign) → begins_with front list ≡ true → begins_with front (list ++ rest) ≡ true
+pub begins_with-longer : (front list rest : List Sign) → begins_with front list ≡ true
+    → begins_with front (list ++ rest) ≡ true
 begins_with-longer [] list rest e = refl
 begins_with-longer (_ ∷ front) [] rest e = absurd (true≢false (sym e))
 begins_with-longer (Over ∷ front) (Over ∷ list) rest e = begins_with-longer front list rest e
@@ -110,20 +117,26 @@ begins_with-longer (Under ∷ front) (Under ∷ list) rest e = begins_with-longe
 begins_with-longer (Over ∷ front) (Under ∷ list) rest e = absurd (true≢false (sym e))
 begins_with-longer (Under ∷ front) (Over ∷ list) rest e = absurd (true≢false (sym e))
 
-pub begins_with-shorter : (front list rest : List Sign) → begins_with front (list ++ rest) ≡ true → length front ≤ length list
+pub begins_with-shorter : (front list rest : List Sign) → begins_with front (list ++ rest) ≡ true
+    → length front ≤ length list
     → begins_with front list ≡ true
 begins_with-shorter [] list rest e short = refl
 begins_with-shorter (_ ∷ front) [] rest e short = absurd (omega (arith, short))
-begins_with-shorter (Over ∷ front) (Over ∷ list) rest e short = begins_with-shorter front list rest e (omega (arith, short))
-begins_with-shorter (Under ∷ front) (Under ∷ list) rest e short = begins_with-shorter front list rest e (omega (arith, short))
+begins_with-shorter (Over ∷ front) (Over ∷ list) rest e short =
+    begins_with-shorter front list rest e (omega (arith, short))
+begins_with-shorter (Under ∷ front) (Under ∷ list) rest e short =
+    begins_with-shorter front list rest e (omega (arith, short))
 begins_with-shorter (Over ∷ front) (Under ∷ list) rest e short = absurd (true≢false (sym e))
 begins_with-shorter (Under ∷ front) (Over ∷ list) rest e short = absurd (true≢false (sym e))
 
-pub begins_with-same : (front list : List Sign) → begins_with front list ≡ true → length list ≤ length front → list ≡ front
+pub begins_with-same : (front list : List Sign) → begins_with front list ≡ true → length list ≤ length front
+    → list ≡ front
 begins_with-same [] [] e short = refl
 begins_with-same [] (_ ∷ list) e short = absurd (omega (arith, short))
 begins_with-same (_ ∷ front) [] e short = absurd (true≢false (sym e))
-begins_with-same (Over ∷ front) (Over ∷ list) e short = ap (λ l. Over ∷ l) (begins_with-same front list e (omega (arith, short)))
-begins_with-same (Under ∷ front) (Under ∷ list) e short = ap (λ l. Under ∷ l) (begins_with-same front list e (omega (arith, short)))
+begins_with-same (Over ∷ front) (Over ∷ list) e short =
+    ap (λ l. Over ∷ l) (begins_with-same front list e (omega (arith, short)))
+begins_with-same (Under ∷ front) (Under ∷ list) e short =
+    ap (λ l. Under ∷ l) (begins_with-same front list e (omega (arith, short)))
 begins_with-same (Over ∷ front) (Under ∷ list) e short = absurd (true≢false (sym e))
 begins_with-same (Under ∷ front) (Over ∷ list) e short = absurd (true≢false (sym e))

@@ -21,10 +21,12 @@ use Rattle.sign_rules.specs.ConsistencyLaws.{decided-last, decided-from_last, no
 pub record HasFit (rules : List Rule) (signs : List Sign) (next : ℕ) : Type 0 where
   pub within : next ≤ length rules
   pub found : (d : Rule) → 0 < next → last_pair (slice_index_or rules (next - 1) d) ≡ length signs - 1
-  pub met : (d : Rule) (n : ℕ) → next ≤ n → n < length rules → last_pair (slice_index_or rules n d) ≡ length signs - 1
+  pub met : (d : Rule) (n : ℕ) → next ≤ n → n < length rules
+      → last_pair (slice_index_or rules n d) ≡ length signs - 1
       → is_met signs (slice_index_or rules n d) ≡ true
 
-pub HasFit-start : (rules : List Rule) (signs : List Sign) (next : ℕ) → IsLatest rules (length signs - 1) (length rules) next
+pub HasFit-start : (rules : List Rule) (signs : List Sign) (next : ℕ)
+    → IsLatest rules (length signs - 1) (length rules) next
     → HasFit rules signs next
 HasFit-start rules signs next latest = record {
   within = latest.within;
@@ -32,7 +34,8 @@ HasFit-start rules signs next latest = record {
   met = λ d n from below same. absurd (latest.others d n from below same);
 }
 
-pub HasFit-next : (rules : List Rule) (signs : List Sign) (next following : ℕ) (rule : Rule) → HasFit rules signs next → 0 < next
+pub HasFit-next : (rules : List Rule) (signs : List Sign) (next following : ℕ) (rule : Rule)
+    → HasFit rules signs next → 0 < next
     → rule ≡ slice_index_or rules (next - 1) rule
     → is_met signs rule ≡ true
     → IsLatest rules (last_pair (slice_index_or rules (next - 1) rule)) (next - 1) following
@@ -43,7 +46,8 @@ HasFit-next rules signs next following rule fit some is met latest = record {
   met = λ d n from below same. later_met d n from below same (cases_order n (next - 1));
 }
   where
-    later_met : (d : Rule) (n : ℕ) → following ≤ n → n < length rules → last_pair (slice_index_or rules n d) ≡ length signs - 1
+    later_met : (d : Rule) (n : ℕ) → following ≤ n → n < length rules
+        → last_pair (slice_index_or rules n d) ≡ length signs - 1
         → (n ≡ next - 1) ⊎ ((n < next - 1) ⊎ (next - 1 < n)) → is_met signs (slice_index_or rules n d) ≡ true
     later_met d n from below same (inl here) =
         let own : slice_index_or rules n d ≡ rule =
@@ -60,8 +64,10 @@ at_last-met signs rule some met =
       | inl same ↦ and_left _ _ (and_right (is_decided (length signs) rule) _ (ap not (met same)))
       | inr apart ↦
           elim apart [
-            | inl below ↦ and_right (is_broken signs rule) _ (ap not (decided-from_last (length signs - 1) rule below))
-            | inr above ↦ and_left _ _ (and_left _ _ (not_decided-from_last (length signs) rule (omega arith)))
+            | inl below ↦ and_right (is_broken signs rule) _
+                (ap not (decided-from_last (length signs - 1) rule below))
+            | inr above ↦ and_left _ _
+                (and_left _ _ (not_decided-from_last (length signs) rule (omega arith)))
           ]
     ]
 
@@ -77,14 +83,17 @@ pub none_broken : (rules : List Rule) (signs : List Sign) → 0 < length signs �
 none_broken rules signs some fit =
     list_any_none (is_broken_at_last signs) rules
     (All-from_get_or (λ x. is_broken_at_last signs x ≡ false) rules (Fixed 0 Over)
-    (λ n below. at_last-met signs (slice_index_or rules n (Fixed 0 Over)) some (λ same. fit.met (Fixed 0 Over) n (omega arith) below same)))
+    (λ n below. at_last-met signs (slice_index_or rules n (Fixed 0 Over)) some
+    (λ same. fit.met (Fixed 0 Over) n (omega arith) below same)))
 
 -- each rule of a list on a number of pairs is decided within them
-pub last_pair-below : (pairs : ℕ) (rules : List Rule) (last n : ℕ) (d : Rule) → are_rules_on pairs rules ≡ true → n < length rules
+pub last_pair-below : (pairs : ℕ) (rules : List Rule) (last n : ℕ) (d : Rule)
+    → are_rules_on pairs rules ≡ true → n < length rules
     → last ≡ last_pair (slice_index_or rules n d) → last < pairs
 last_pair-below pairs rules last n d all below is =
     elim (cases_Bool (is_rule_on pairs (slice_index_or rules n d))) [
-      | inl holds ↦ subst (λ p. p < pairs) (sym is) (decided-last pairs (slice_index_or rules n d) (and_parts _ _ holds).0)
+      | inl holds ↦ subst (λ p. p < pairs) (sym is)
+          (decided-last pairs (slice_index_or rules n d) (and_parts _ _ holds).0)
       | inr fails ↦ absurd (true≢false (sym all ∙ list_all_at (is_rule_on pairs) rules n d below fails))
     ]
 
@@ -102,7 +111,8 @@ IsIndex-none pairs rules = record {
 }
 
 -- one more rule: it is where the chain of its greatest pair begins, and goes on to where that chain began
-pub IsIndex-more : (pairs end : ℕ) (rules : List Rule) (latest earlier : List ℕ) (last : ℕ) (e : Rule) → IsIndex pairs end rules latest earlier
+pub IsIndex-more : (pairs end : ℕ) (rules : List Rule) (latest earlier : List ℕ) (last : ℕ) (e : Rule)
+    → IsIndex pairs end rules latest earlier
     → end < length rules → last ≡ last_pair (slice_index_or rules end e) → last < pairs
     → IsIndex pairs (end + 1) rules (set latest last (end + 1)) (earlier ++ slice_index_or latest last 0 ∷ [])
 IsIndex-more pairs end rules latest earlier last e index below is within = record {
@@ -113,7 +123,8 @@ IsIndex-more pairs end rules latest earlier last e index below is within = recor
 }
   where
     own : (d : Rule) (n : ℕ) → n ≡ end → last_pair (slice_index_or rules n d) ≡ last
-    own d n here = ap last_pair (ap (λ k. slice_index_or rules k d) here ∙ get_or_default rules end d e below) ∙ sym is
+    own d n here = ap last_pair (ap (λ k. slice_index_or rules k d) here ∙ get_or_default rules end d e below)
+        ∙ sym is
 
     begins_at : (p : ℕ) → p < pairs → (p ≡ last) ⊎ (p ≡ last → ⊥)
         → IsLatest rules p (end + 1) (slice_index_or (set latest last (end + 1)) p 0)
@@ -135,7 +146,8 @@ IsIndex-more pairs end rules latest earlier last e index below is within = recor
         })
       where
         others_at : (d : Rule) (n : ℕ) → slice_index_or latest p 0 ≤ n → n < end + 1 → (n < end) ⊎ (end ≤ n)
-            → IsLatest rules p end (slice_index_or latest p 0) → (p ≡ last → ⊥) → last_pair (slice_index_or rules n d) ≢ p
+            → IsLatest rules p end (slice_index_or latest p 0) → (p ≡ last → ⊥)
+            → last_pair (slice_index_or rules n d) ≢ p
         others_at d n from before (inl earlier) old apart = old.others d n from earlier
         others_at d n from before (inr final) old apart = λ same. apart (sym same ∙ own d n (omega arith))
 
@@ -148,7 +160,8 @@ IsIndex-more pairs end rules latest earlier last e index below is within = recor
         (index.goes_on d n before)
     goes_on_at d n (inr after) inside =
         let here : n ≡ end = omega arith in
-        let read : slice_index_or (earlier ++ slice_index_or latest last 0 ∷ []) n 0 ≡ slice_index_or latest last 0 =
+        let read : slice_index_or (earlier ++ slice_index_or latest last 0 ∷ []) n 0
+        ≡ slice_index_or latest last 0 =
         get_or_push earlier (slice_index_or latest last 0) 0 n (omega (arith, index.steps)) in
         subst (IsLatest rules (last_pair (slice_index_or rules n d)) n) (sym read)
         (subst (λ p. IsLatest rules p n (slice_index_or latest last 0)) (sym (own d n here))
@@ -158,7 +171,8 @@ IsIndex-more pairs end rules latest earlier last e index below is within = recor
 -- what the rules that the last sign decides say of the longer list
 pub step_from_value : (r : RulesView) (signs : List Sign) (fits : Bool) → length signs ≤ r.pairs
     → fits ≡ not (list_any (is_broken_at_last signs) r.rules)
-    → (front : List Sign) (sign : Sign) → signs ≡ front ++ sign ∷ [] → IsTrue (is_consistent r front) → fits ≡ is_consistent r signs
+    → (front : List Sign) (sign : Sign) → signs ≡ front ++ sign ∷ [] → IsTrue (is_consistent r front)
+    → fits ≡ is_consistent r signs
 step_from_value r signs fits within value front sign split holds =
     value
     ∙ ap (λ (l : List Sign). not (list_any (is_broken_at_last l) r.rules)) split

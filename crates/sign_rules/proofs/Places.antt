@@ -2,7 +2,8 @@
 use Rattle.std.proofs.Common.{◌≡◌, ℕ, ◌+◌, Bool, true, false, cond, ◌||◌, List, [], ◌∷◌, Some, refl, is_some}
 use Rattle.std.specs.List.{position_from, list_any}
 
-pub is_some-position_from : {X : Type 0} (p : X → Bool) (n : ℕ) (xs : List X) → is_some (position_from p n xs) ≡ list_any p xs
+pub is_some-position_from : {X : Type 0} (p : X → Bool) (n : ℕ) (xs : List X)
+    → is_some (position_from p n xs) ≡ list_any p xs
 is_some-position_from p n [] = refl
 is_some-position_from p n (x ∷ xs) = first (p x) (is_some-position_from p (n + 1) xs)
   where

@@ -29,7 +29,8 @@ decided-from_last n rule below = decided_is n rule ∙ lt-ltb (last_pair rule) n
 pub not_decided-from_last : (count : ℕ) (rule : Rule) → count ≤ last_pair rule → is_decided count rule ≡ false
 not_decided-from_last n rule above = decided_is n rule ∙ le-ltb (last_pair rule) n above
 
-over_at-front : (front rest : List Sign) (p : ℕ) → p < length front → over_at (front ++ rest) p ≡ over_at front p
+over_at-front : (front rest : List Sign) (p : ℕ) → p < length front
+    → over_at (front ++ rest) p ≡ over_at front p
 over_at-front [] rest p below = absurd (omega arith)
 over_at-front (s ∷ front) rest zero below = refl
 over_at-front (s ∷ front) rest (suc p) below = over_at-front front rest p (omega arith)
@@ -45,10 +46,12 @@ met-front front rest rule decided = by_rule rule (decided-last (length front) ru
     by_rule : (rule : Rule) → last_pair rule < length front → is_met (front ++ rest) rule ≡ is_met front rule
     by_rule (Fixed p sign) below = simp (at p (omega arith))
     by_rule (Equal p q same) below = simp (at p (omega arith), at q (omega arith))
-    by_rule (Even p q r s odd) below = simp (at p (omega arith), at q (omega arith), at r (omega arith), at s (omega arith))
+    by_rule (Even p q r s odd) below =
+        simp (at p (omega arith), at q (omega arith), at r (omega arith), at s (omega arith))
     by_rule (NotCyclic ij jk ik) below = simp (at ij (omega arith), at jk (omega arith), at ik (omega arith))
 
-broken-front : (front rest : List Sign) (rule : Rule) → is_broken (front ++ rest) rule ≡ false → is_broken front rule ≡ false
+broken-front : (front rest : List Sign) (rule : Rule) → is_broken (front ++ rest) rule ≡ false
+    → is_broken front rule ≡ false
 broken-front front rest rule fits =
     elim (cases_Bool (is_decided (length front) rule)) [
       | inl decided ↦
@@ -75,13 +78,17 @@ any_broken-front : (front rest : List Sign) (rs : List Rule) → list_any (is_br
 any_broken-front front rest [] fits = refl
 any_broken-front front rest (rule ∷ rs) fits =
     let parts = neither (is_broken (front ++ rest) rule) (list_any (is_broken (front ++ rest)) rs) fits in
-    none (is_broken front rule) (list_any (is_broken front) rs) (broken-front front rest rule parts.0) (any_broken-front front rest rs parts.1)
+    none (is_broken front rule) (list_any (is_broken front) rs) (broken-front front rest rule parts.0)
+    (any_broken-front front rest rs parts.1)
 
 -- a front of a consistent list is consistent
-pub consistent-front : (r : RulesView) (front rest : List Sign) → IsTrue (is_consistent r (front ++ rest)) → IsTrue (is_consistent r front)
+pub consistent-front : (r : RulesView) (front rest : List Sign) → IsTrue (is_consistent r (front ++ rest))
+    → IsTrue (is_consistent r front)
 consistent-front r front rest holds =
-    let parts = and_parts (nat_le (length (front ++ rest)) r.pairs) (not (list_any (is_broken (front ++ rest)) r.rules)) holds in
-    let shorter : length front ≤ r.pairs = omega (arith, leb-true (length (front ++ rest)) r.pairs parts.0, length-append front rest) in
+    let parts = and_parts (nat_le (length (front ++ rest)) r.pairs)
+    (not (list_any (is_broken (front ++ rest)) r.rules)) holds in
+    let shorter : length front ≤ r.pairs = omega
+    (arith, leb-true (length (front ++ rest)) r.pairs parts.0, length-append front rest) in
     and_from _ _ (le-leb (length front) r.pairs shorter)
     (ap not (any_broken-front front rest r.rules (not-true _ parts.1)))
 
@@ -96,26 +103,32 @@ broken_at_last-is front sign rule fits =
           and_right _ _ (ap not (met-front front (sign ∷ []) rule decided) ∙ met) in
           kept ∙ sym (and_left (is_broken (front ++ sign ∷ []) rule) _ kept)
       | inr undecided ↦
-          let one_less : length (front ++ sign ∷ []) - 1 ≡ length front = omega (arith, length-append front (sign ∷ [])) in
-          let before : is_decided (length (front ++ sign ∷ []) - 1) rule ≡ false = ap (λ n. is_decided n rule) one_less ∙ undecided in
+          let one_less : length (front ++ sign ∷ []) - 1
+          ≡ length front = omega (arith, length-append front (sign ∷ [])) in
+          let before : is_decided (length (front ++ sign ∷ []) - 1) rule
+          ≡ false = ap (λ n. is_decided n rule) one_less ∙ undecided in
           sym (ap (λ b. is_broken (front ++ sign ∷ []) rule && not b) before ∙ and-true _)
     ]
   where
     fits_met : is_decided (length front) rule ≡ true
-        → (is_decided (length front) rule ≡ false) ⊎ (not (is_met front rule) ≡ false) → not (is_met front rule) ≡ false
+        → (is_decided (length front) rule ≡ false) ⊎ (not (is_met front rule) ≡ false)
+        → not (is_met front rule) ≡ false
     fits_met decided (inl undecided) = absurd (true≢false (sym decided ∙ undecided))
     fits_met decided (inr met) = met
 
-any_broken_at_last-is : (front : List Sign) (sign : Sign) (rs : List Rule) → list_any (is_broken front) rs ≡ false
+any_broken_at_last-is : (front : List Sign) (sign : Sign) (rs : List Rule)
+    → list_any (is_broken front) rs ≡ false
     → list_any (is_broken (front ++ sign ∷ [])) rs ≡ list_any (is_broken_at_last (front ++ sign ∷ [])) rs
 any_broken_at_last-is front sign [] fits = refl
 any_broken_at_last-is front sign (rule ∷ rs) fits =
     let parts = neither (is_broken front rule) (list_any (is_broken front) rs) fits in
     let head = broken_at_last-is front sign rule parts.0 in
     let tail = any_broken_at_last-is front sign rs parts.1 in
-    ap (λ b. b || list_any (is_broken (front ++ sign ∷ [])) rs) head ∙ ap (λ b. is_broken_at_last (front ++ sign ∷ []) rule || b) tail
+    ap (λ b. b || list_any (is_broken (front ++ sign ∷ [])) rs) head
+    ∙ ap (λ b. is_broken_at_last (front ++ sign ∷ []) rule || b) tail
 
-pub consistent-step : (r : RulesView) (front : List Sign) (sign : Sign) → length (front ++ sign ∷ []) ≤ r.pairs
+pub consistent-step : (r : RulesView) (front : List Sign) (sign : Sign)
+    → length (front ++ sign ∷ []) ≤ r.pairs
     → IsTrue (is_consistent r front)
     → not (list_any (is_broken_at_last (front ++ sign ∷ [])) r.rules) ≡ is_consistent r (front ++ sign ∷ [])
 consistent-step r front sign within holds =

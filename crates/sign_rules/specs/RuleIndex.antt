@@ -15,4 +15,5 @@ pub record IsIndex (pairs end : ℕ) (rules : List Rule) (latest earlier : List 
   pub starts : length latest ≡ pairs
   pub steps : length earlier ≡ end
   pub begins : (p : ℕ) → p < pairs → IsLatest rules p end (slice_index latest p)
-  pub goes_on : (d : Rule) (n : ℕ) → n < end → IsLatest rules (last_pair (slice_index_or rules n d)) n (slice_index earlier n)
+  pub goes_on : (d : Rule) (n : ℕ) → n < end
+      → IsLatest rules (last_pair (slice_index_or rules n d)) n (slice_index earlier n)

@@ -22,7 +22,8 @@ abbrev pub IsExactly : Result Surd OutOfRange → Number → Type 0
 IsExactly r x = MatchResult r (λ s. IsSurdOf s x) (λ _. ¬ IsSurd x)
 
 -- the canonical triple of x as a Surd, where it is within the limits
-unfoldable pub surd_within : (x : Number) (r : Reduction x) → IsWithin 36 16 r.form ⊎ ¬ IsWithin 36 16 r.form → Option Surd
+unfoldable pub surd_within : (x : Number) (r : Reduction x) → IsWithin 36 16 r.form ⊎ ¬ IsWithin 36 16 r.form
+    → Option Surd
 surd_within x r (inl h) = Some (record { a = r.form.a; b = r.form.b; k = r.form.k; stored = (r.least, h) })
 surd_within x r (inr h) = None
 

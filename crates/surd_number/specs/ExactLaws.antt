@@ -12,13 +12,17 @@ use Rattle.surd_number.specs.Value.{number_of}
 use Rattle.surd_number.specs.SurdLaws.{surd_is}
 use Rattle.surd_number.specs.Exact.{IsSurdOf, IsExactly, surd_within, surd_of}
 
-surd_within-is : (x : Number) (s : Surd) → IsSurdOf s x → (r : Reduction x) (d : IsWithin 36 16 r.form ⊎ ¬ IsWithin 36 16 r.form) → surd_within x r d ≡ Some s
+surd_within-is : (x : Number) (s : Surd) → IsSurdOf s x
+    → (r : Reduction x) (d : IsWithin 36 16 r.form ⊎ ¬ IsWithin 36 16 r.form) → surd_within x r d ≡ Some s
 unfolding surd_within
 surd_within-is x s same r (inl h) =
-    ap Some (surd_is (record { a = r.form.a; b = r.form.b; k = r.form.k; stored = (r.least, h) }) s (IsSame-trans r.form x (number_of s) r.same (IsSame-sym (number_of s) x same)))
-surd_within-is x s same r (inr h) = absurd (h (stored_from_surd r.form x r.least r.same (number_of s, s.stored, same)).1)
+    ap Some (surd_is (record { a = r.form.a; b = r.form.b; k = r.form.k; stored = (r.least, h) }) s
+    (IsSame-trans r.form x (number_of s) r.same (IsSame-sym (number_of s) x same)))
+surd_within-is x s same r (inr h) =
+    absurd (h (stored_from_surd r.form x r.least r.same (number_of s, s.stored, same)).1)
 
-surd_within-none : (x : Number) → ¬ IsSurd x → (r : Reduction x) (d : IsWithin 36 16 r.form ⊎ ¬ IsWithin 36 16 r.form) → surd_within x r d ≡ None
+surd_within-none : (x : Number) → ¬ IsSurd x
+    → (r : Reduction x) (d : IsWithin 36 16 r.form ⊎ ¬ IsWithin 36 16 r.form) → surd_within x r d ≡ None
 unfolding surd_within
 surd_within-none x none r (inl h) = absurd (none (r.form, (r.least, h), r.same))
 surd_within-none x none r (inr h) = refl
@@ -41,7 +45,8 @@ pub surd_of-exactly : (x : Number) (r : Result Surd OutOfRange) → IsExactly r 
 surd_of-exactly x (Ok s) h = surd_of-is x s h
 surd_of-exactly x (Err e) h = surd_of-none x h
 
-surd_within-value : (x : Number) (s : Surd) (r : Reduction x) (d : IsWithin 36 16 r.form ⊎ ¬ IsWithin 36 16 r.form) → surd_within x r d ≡ Some s → IsSurdOf s x
+surd_within-value : (x : Number) (s : Surd) (r : Reduction x)
+    (d : IsWithin 36 16 r.form ⊎ ¬ IsWithin 36 16 r.form) → surd_within x r d ≡ Some s → IsSurdOf s x
 unfolding surd_within
 surd_within-value x s r (inl h) e =
     let form : Surd = record { a = r.form.a; b = r.form.b; k = r.form.k; stored = (r.least, h) } in

@@ -47,10 +47,20 @@ pub int_mul_zero : (x : ℤ) → x *ℤ pos 0 ≡ pos 0
 int_mul_zero = *ℤ-zero
 
 pub int_mul_add : (x y z : ℤ) → x *ℤ (y +ℤ z) ≡ x *ℤ y +ℤ x *ℤ z
-int_mul_add x y z = same_in _ _ (omega (arith, product_is x (y +ℤ z), product_is x y, product_is x z, sum_is_lem (x *ℤ y) (x *ℤ z), ap (λ (n : ℕ). up x * n) (sum_is_lem y z), ap (λ (n : ℕ). down x * n) (sum_is_lem y z)))
+int_mul_add x y z = same_in _ _
+    (omega (
+      arith,
+      product_is x (y +ℤ z),
+      product_is x y,
+      product_is x z,
+      sum_is_lem (x *ℤ y) (x *ℤ z),
+      ap (λ (n : ℕ). up x * n) (sum_is_lem y z),
+      ap (λ (n : ℕ). down x * n) (sum_is_lem y z),
+    ))
 
 pub int_add_mul : (x y z : ℤ) → (x +ℤ y) *ℤ z ≡ x *ℤ z +ℤ y *ℤ z
-int_add_mul x y z = int_mul_comm (x +ℤ y) z ∙ int_mul_add z x y ∙ ap₂ ◌+ℤ◌ (int_mul_comm z x) (int_mul_comm z y)
+int_add_mul x y z = int_mul_comm (x +ℤ y) z ∙ int_mul_add z x y
+    ∙ ap₂ ◌+ℤ◌ (int_mul_comm z x) (int_mul_comm z y)
 
 pub int_neg_is_product : (x : ℤ) → neg_ℤ x ≡ negsuc 0 *ℤ x
 int_neg_is_product x = omega (arith, ints)
@@ -66,7 +76,16 @@ int_zero_is (pos n) e = ap pos (eqb-true n 0 e)
 int_zero_is (negsuc n) e = absurd (true≢false (sym e))
 
 abbrev pub whole_numbers : Operations ℤ
-whole_numbers = record { add = ◌+ℤ◌; mul = ◌*ℤ◌; neg = neg_ℤ; half = λ x. x; nought = pos 0; unit = pos 1; factor = pos 1; is_nought = int_is_zero }
+whole_numbers = record {
+  add = ◌+ℤ◌;
+  mul = ◌*ℤ◌;
+  neg = neg_ℤ;
+  half = λ x. x;
+  nought = pos 0;
+  unit = pos 1;
+  factor = pos 1;
+  is_nought = int_is_zero;
+}
 
 pub whole_numbers_IsRing : IsRing (λ (x y : ℤ). x ≡ y) whole_numbers
 whole_numbers_IsRing = record {
@@ -90,16 +109,26 @@ whole_numbers_IsRing = record {
 }
 
 -- an equation between whole numbers, by multiplying out
-pub int_ring : (xs : List ℤ) (e f : Expression ℤ) → vanishes whole_numbers (sum_of_products whole_numbers (e ⊝ f)) ≡ true → value whole_numbers xs e ≡ value whole_numbers xs f
+pub int_ring : (xs : List ℤ) (e f : Expression ℤ)
+    → vanishes whole_numbers (sum_of_products whole_numbers (e ⊝ f)) ≡ true
+    → value whole_numbers xs e ≡ value whole_numbers xs f
 int_ring xs e f h = solved whole_numbers_IsRing xs e f h
 
 -- from the equation of h and g, where e ⊝ f is c ⊗ (h ⊝ g)
-pub int_ring_from : (xs : List ℤ) (h g c e f : Expression ℤ) → vanishes whole_numbers (sum_of_products whole_numbers (e ⊝ f ⊝ c ⊗ (h ⊝ g))) ≡ true → value whole_numbers xs h ≡ value whole_numbers xs g → value whole_numbers xs e ≡ value whole_numbers xs f
+pub int_ring_from : (xs : List ℤ) (h g c e f : Expression ℤ)
+    → vanishes whole_numbers (sum_of_products whole_numbers (e ⊝ f ⊝ c ⊗ (h ⊝ g))) ≡ true
+    → value whole_numbers xs h ≡ value whole_numbers xs g
+    → value whole_numbers xs e ≡ value whole_numbers xs f
 int_ring_from xs h g c e f t p = solved_from whole_numbers_IsRing xs h g c e f t p
 
 -- from two equations, where e ⊝ f is c ⊗ (h ⊝ g) ⊕ c' ⊗ (h' ⊝ g')
-pub int_ring_from_two : (xs : List ℤ) (h g c h' g' c' e f : Expression ℤ) → vanishes whole_numbers (sum_of_products whole_numbers (e ⊝ f ⊝ c ⊗ (h ⊝ g) ⊝ c' ⊗ (h' ⊝ g'))) ≡ true → value whole_numbers xs h ≡ value whole_numbers xs g → value whole_numbers xs h' ≡ value whole_numbers xs g' → value whole_numbers xs e ≡ value whole_numbers xs f
-int_ring_from_two xs h g c h' g' c' e f t p p' = solved_from_two whole_numbers_IsRing xs h g c h' g' c' e f t p p'
+pub int_ring_from_two : (xs : List ℤ) (h g c h' g' c' e f : Expression ℤ)
+    → vanishes whole_numbers (sum_of_products whole_numbers (e ⊝ f ⊝ c ⊗ (h ⊝ g) ⊝ c' ⊗ (h' ⊝ g'))) ≡ true
+    → value whole_numbers xs h ≡ value whole_numbers xs g
+    → value whole_numbers xs h' ≡ value whole_numbers xs g'
+    → value whole_numbers xs e ≡ value whole_numbers xs f
+int_ring_from_two xs h g c h' g' c' e f t p p' =
+    solved_from_two whole_numbers_IsRing xs h g c h' g' c' e f t p p'
 
 -- ---- factors and powers
 
@@ -108,10 +137,12 @@ pub int_mul_cancel : (x y : ℤ) (n : ℕ) → 0 < n → x *ℤ pos n ≡ y *ℤ
 int_mul_cancel x y n h e = same_in x y (omega (arith, left, right))
   where
     left : up x ≡ up y
-    left = eq_of_mul-eq-mul_right n h (up x) (up y) (omega (arith, product_is x (pos n), product_is y (pos n), same_out (x *ℤ pos n) (y *ℤ pos n) e))
+    left = eq_of_mul-eq-mul_right n h (up x) (up y)
+        (omega (arith, product_is x (pos n), product_is y (pos n), same_out (x *ℤ pos n) (y *ℤ pos n) e))
 
     right : down x ≡ down y
-    right = eq_of_mul-eq-mul_right n h (down x) (down y) (omega (arith, product_is x (pos n), product_is y (pos n), same_out (x *ℤ pos n) (y *ℤ pos n) e))
+    right = eq_of_mul-eq-mul_right n h (down x) (down y)
+        (omega (arith, product_is x (pos n), product_is y (pos n), same_out (x *ℤ pos n) (y *ℤ pos n) e))
 
 pub int_power_add : (k l : ℕ) → pos (2 ^ (k + l)) ≡ pos (2 ^ k) *ℤ pos (2 ^ l)
 int_power_add k l = ap pos (pow-add 2 k l)

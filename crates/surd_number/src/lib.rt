@@ -200,7 +200,8 @@ impl PartialOrd for Surd {
 
     ghost partial_cmp = { as_partial_cmp compare_surds };
 
-    ghost laws = { partial_order_from_agreeing_total compare_surds compare_surds_total (λ _ _. refl) surd_eq_is };
+    ghost laws = { partial_order_from_agreeing_total compare_surds compare_surds_total
+        (λ _ _. refl) surd_eq_is };
 
     fn partial_cmp(&self, other: &Surd) -> Option<Ordering> {
         Some(self.cmp(other))
@@ -348,7 +349,8 @@ impl PartialOrd for Wide {
 
     ghost partial_cmp = { as_partial_cmp compare_wides };
 
-    ghost laws = { partial_order_from_agreeing_total compare_wides compare_wides_total (λ _ _. refl) wide_eq_is };
+    ghost laws = { partial_order_from_agreeing_total compare_wides compare_wides_total
+        (λ _ _. refl) wide_eq_is };
 
     fn partial_cmp(&self, other: &Wide) -> Option<Ordering> {
         Some(self.cmp(other))

@@ -26,7 +26,8 @@ current_pattern j = pattern_at j j.current
 
 -- each version of the one journal has the same pattern in the other
 abbrev pub KeepsPatterns : JournalView → JournalView → Type 0
-KeepsPatterns old new = (version : ℕ) (p : PatternView) → pattern_at old version ≡ Some p → pattern_at new version ≡ Some p
+KeepsPatterns old new =
+    (version : ℕ) (p : PatternView) → pattern_at old version ≡ Some p → pattern_at new version ≡ Some p
 
 abbrev pub parent_at : JournalView → ℕ → ℕ
 parent_at j version = unwrap_or (option_map (λ v. v.parent) (slice_get j.versions version)) 0

@@ -85,7 +85,11 @@ impl Model for Journal {
 
     ghost Value = { JournalView };
 
-    ghost view = { λ j. record { versions = j.versions.items; current = j.current; redo = reverse j.redo.items } };
+    ghost view = { λ j. record {
+      versions = j.versions.items;
+      current = j.current;
+      redo = reverse j.redo.items;
+    } };
 
     // The room that undo needs in the redo list is taken with each version.
     ghost invariant = { λ j.
@@ -128,7 +132,8 @@ impl Journal {
 
     /// The pattern of a version.
     pub fn get(&self, version: u32) -> Option<&Pattern>
-        ensures { MatchOption result (pattern_at self.now version ≡ None) (λ p. pattern_at self.now version ≡ Some p.now) }
+        ensures { MatchOption result (pattern_at self.now version ≡ None)
+            (λ p. pattern_at self.now version ≡ Some p.now) }
     {
         match self.versions.get(version as usize) {
             Some(v) => Some(&v.pattern),

@@ -7,6 +7,7 @@ use Rattle.cp_text.proofs.writing.put_sides.Given as goal
 
 abbrev pub invariant-loop-i : goal.invariant-loop-i
 invariant-loop-i l = record {
-  written : l.out.items ++ lines_text (map line_of_side (sides_left l.corners l.i)) ≡ l.initial.out.items ++ lines_text (map line_of_side (sides_of l.corners));
+  written : l.out.items ++ lines_text (map line_of_side (sides_left l.corners l.i)) ≡ l.initial.out.items
+      ++ lines_text (map line_of_side (sides_of l.corners));
   kept : KeepsFront l.initial.out.items l.out.items;
 }

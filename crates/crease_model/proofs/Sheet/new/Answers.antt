@@ -5,4 +5,6 @@ use Rattle.crease_model.proofs.Sheet.new.Goals as goal
 
 pub invariant_of-result : goal.invariant_of-result
 invariant_of-result c =
-    ap is_sheet c.in_ok-rotated-in-None.ensures ∙ new_sheet c.args.corners.now c.requires.least c.requires.most (sym c.fault_of.ensures ∙ c.in-None.is)
+    ap is_sheet c.in_ok-rotated-in-None.ensures
+    ∙ new_sheet c.args.corners.now c.requires.least c.requires.most
+    (sym c.fault_of.ensures ∙ c.in-None.is)

@@ -14,7 +14,9 @@ bends_left corners i before = bends_from before (map side_direction (sides_left 
 
 abbrev pub invariant-loop-i : goal.invariant-loop-i
 invariant-loop-i l = record {
-  bad : first_bad (l.i + 1) (bends_left l.corners l.i (option_map dir_number l.before)) ≡ first_bad 1 (bends_of l.corners);
-  turns : l.turns + sum (map bend_turn (bends_left l.corners l.i (option_map dir_number l.before))) ≡ sum (map bend_turn (bends_of l.corners));
+  bad : first_bad (l.i + 1) (bends_left l.corners l.i (option_map dir_number l.before))
+      ≡ first_bad 1 (bends_of l.corners);
+  turns : l.turns + sum (map bend_turn (bends_left l.corners l.i (option_map dir_number l.before)))
+      ≡ sum (map bend_turn (bends_of l.corners));
   few : l.turns ≤ 7 * l.i;
 }

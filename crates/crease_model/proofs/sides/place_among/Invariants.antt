@@ -7,6 +7,8 @@ use Rattle.crease_model.proofs.sides.place_among.Given as goal
 
 abbrev pub invariant-loop-i : goal.invariant-loop-i
 invariant-loop-i l = record {
-  right : list_any (is_right_of (position_of l.p)) (sides_left l.corners l.i) ≡ list_any (is_right_of (position_of l.p)) (sides_of l.corners);
-  left : (l.inside && list_all (is_left_of (position_of l.p)) (sides_left l.corners l.i)) ≡ list_all (is_left_of (position_of l.p)) (sides_of l.corners);
+  right : list_any (is_right_of (position_of l.p)) (sides_left l.corners l.i)
+      ≡ list_any (is_right_of (position_of l.p)) (sides_of l.corners);
+  left : (l.inside && list_all (is_left_of (position_of l.p)) (sides_left l.corners l.i))
+      ≡ list_all (is_left_of (position_of l.p)) (sides_of l.corners);
 }

@@ -10,8 +10,12 @@ loop-n-init c = λ z. and_held
 
 pub loop-n-preserved : goal.loop-n-preserved
 loop-n-preserved c =
-    λ z. next_place (λ k. IfSome (offset_of c.args.self.now k) (λ o. IsBeyond o k (point_along (position_of c.args.q.now) c.args.along z))) c.loop-n.n (c.loop-n.invariant z) (c.along_edge-interval.ensures z)
+    λ z. next_place (λ k. IfSome (offset_of c.args.self.now k)
+    (λ o. IsBeyond o k (point_along (position_of c.args.q.now) c.args.along z))) c.loop-n.n
+    (c.loop-n.invariant z) (c.along_edge-interval.ensures z)
 
 pub returns : goal.returns
 returns c =
-    λ z. all_places (λ k. IfSome (offset_of c.args.self.now k) (λ o. IsBeyond o k (point_along (position_of c.args.q.now) c.args.along z))) c.loop-n.n 16 (omega arith) (c.loop-n.invariant z)
+    λ z. all_places (λ k. IfSome (offset_of c.args.self.now k)
+    (λ o. IsBeyond o k (point_along (position_of c.args.q.now) c.args.along z))) c.loop-n.n 16
+    (omega arith) (c.loop-n.invariant z)

@@ -7,4 +7,8 @@ use Rattle.open_region.specs.Strip.{point_along}
 use Rattle.open_region.proofs.Region.along.Given as goal
 
 abbrev pub invariant-loop-n : goal.invariant-loop-n
-invariant-loop-n l = (z : Number) → IsInInterval z l.interval ↔ (IsInInterval z l.initial.interval × ((k : ℕ) → k < l.n → IfSome (offset_of l.self k) (λ o. IsBeyond o k (point_along (position_of l.q) l.along z))))
+invariant-loop-n l =
+    (z : Number) → IsInInterval z l.interval
+    ↔ (IsInInterval z l.initial.interval
+    × ((k : ℕ) → k < l.n → IfSome (offset_of l.self k)
+    (λ o. IsBeyond o k (point_along (position_of l.q) l.along z))))

@@ -7,7 +7,10 @@ pub loop-n-init : goal.loop-n-init
 loop-n-init c = λ q. and_held
 
 pub loop-n-preserved : goal.loop-n-preserved
-loop-n-preserved c = λ q. next_place (λ k. IfSome (offset_of c.args.other.now k) (λ o. IsBeyond o k q)) c.loop-n.n (c.loop-n.invariant q) (c.narrow_by.ensures q)
+loop-n-preserved c =
+    λ q. next_place (λ k. IfSome (offset_of c.args.other.now k) (λ o. IsBeyond o k q)) c.loop-n.n
+    (c.loop-n.invariant q) (c.narrow_by.ensures q)
 
 pub returns : goal.returns
-returns c = λ q. all_places (λ k. IfSome (offset_of c.args.other.now k) (λ o. IsBeyond o k q)) c.loop-n.n 16 (omega arith) (c.loop-n.invariant q)
+returns c = λ q. all_places (λ k. IfSome (offset_of c.args.other.now k) (λ o. IsBeyond o k q)) c.loop-n.n 16
+    (omega arith) (c.loop-n.invariant q)

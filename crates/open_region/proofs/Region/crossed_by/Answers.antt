@@ -9,7 +9,11 @@ loop-k-init c = λ y. and_empty
 
 pub loop-k-preserved : goal.loop-k-preserved
 loop-k-preserved c =
-    λ y. next_place (λ k. 1 ≤ k → HoldsAcross c.args.self.now c.args.n (line_offset_of c.args.right.now) k y) c.loop-k.k (c.loop-k.invariant y) (and_given c.loop-k.auto.k (c.crossed_at-heights.ensures y))
+    λ y. next_place (λ k. 1 ≤ k
+    → HoldsAcross c.args.self.now c.args.n (line_offset_of c.args.right.now) k y) c.loop-k.k
+    (c.loop-k.invariant y) (and_given c.loop-k.auto.k (c.crossed_at-heights.ensures y))
 
 pub returns : goal.returns
-returns c = λ y. all_places (λ k. 1 ≤ k → HoldsAcross c.args.self.now c.args.n (line_offset_of c.args.right.now) k y) c.loop-k.k 8 (omega arith) (c.loop-k.invariant y)
+returns c = λ y. all_places
+    (λ k. 1 ≤ k → HoldsAcross c.args.self.now c.args.n (line_offset_of c.args.right.now) k y) c.loop-k.k 8
+    (omega arith) (c.loop-k.invariant y)

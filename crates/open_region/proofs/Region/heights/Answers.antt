@@ -8,7 +8,11 @@ pub loop-n-init : goal.loop-n-init
 loop-n-init c = λ y. and_empty_from (c.level-heights.ensures y)
 
 pub loop-n-preserved : goal.loop-n-preserved
-loop-n-preserved c = λ y. next_place (λ k. 1 ≤ k → IsCrossed c.args.self.now k y) c.loop-n.n (c.loop-n.invariant y) (and_given c.loop-n.auto.n (c.crossed-heights.ensures y))
+loop-n-preserved c =
+    λ y. next_place (λ k. 1 ≤ k → IsCrossed c.args.self.now k y) c.loop-n.n (c.loop-n.invariant y)
+    (and_given c.loop-n.auto.n (c.crossed-heights.ensures y))
 
 pub returns : goal.returns
-returns c = λ y. iff_trans (all_places (λ k. 1 ≤ k → IsCrossed c.args.self.now k y) c.loop-n.n 8 (omega arith) (c.loop-n.invariant y)) (heights_are c.args.self.now y)
+returns c = λ y. iff_trans
+    (all_places (λ k. 1 ≤ k → IsCrossed c.args.self.now k y) c.loop-n.n 8 (omega arith)
+    (c.loop-n.invariant y)) (heights_are c.args.self.now y)

@@ -11,5 +11,7 @@ pub loop-n-preserved : goal.loop-n-preserved
 loop-n-preserved c =
     λ k few. elim (cases_lt k c.loop-n.n) [
       | inl less ↦ c.loop-n.invariant k less
-      | inr more ↦ (let e : c.loop-n.n ≡ k = omega arith in subst (λ (i : ℕ). IfSome (offset_of c.args.self.now i) (λ o. IsBeyond o i (position_of c.args.p.now))) e (c.admits.ensures.0 c.if-not-admits.false))
+      | inr more ↦ (let e : c.loop-n.n ≡ k = omega arith
+          in subst (λ (i : ℕ). IfSome (offset_of c.args.self.now i)
+          (λ o. IsBeyond o i (position_of c.args.p.now))) e (c.admits.ensures.0 c.if-not-admits.false))
     ]

@@ -12,5 +12,8 @@ returns c =
     let n = dir_number c.args.d in
     let o = line_offset_of c.through.result in
     λ q.
-    let narrowed = subst (λ (k : ℕ). IsInRegion q c.narrow.new.self ↔ (IsInRegion q c.args.self.now × IsBeyond (turned_offset k o) k q)) c.number.ensures (c.narrow.ensures q) in
+    let narrowed = subst
+    (λ (k : ℕ). IsInRegion q c.narrow.new.self
+    ↔ (IsInRegion q c.args.self.now × IsBeyond (turned_offset k o) k q)) c.number.ensures
+    (c.narrow.ensures q) in
     and_iff narrowed (left_is_side n (turned_offset n o) (position_of c.args.p.now) q c.through.ensures)

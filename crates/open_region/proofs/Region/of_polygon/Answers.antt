@@ -14,11 +14,15 @@ loop-i-preserved c =
     let i = c.loop-i.i in
     let s : Side = record { start = c.index-corners-i.result; end = c.next_corner.result.now } in
     let rest = sides_left corners (i + 1) in
-    let first : sides_left corners i ≡ s ∷ rest = next_side_left corners i s.start s.end c.loop-i-test.true c.index-corners-i.is c.next_corner.ensures in
+    let first : sides_left corners i
+    ≡ s ∷ rest = next_side_left corners i s.start s.end c.loop-i-test.true c.index-corners-i.is
+    c.next_corner.ensures in
     record {
-      directed = (and_parts (has_direction s) (list_all has_direction rest) (subst (λ sides. list_all has_direction sides ≡ true) first c.loop-i.invariant.directed)).1;
+      directed = (and_parts (has_direction s) (list_all has_direction rest)
+          (subst (λ sides. list_all has_direction sides ≡ true) first c.loop-i.invariant.directed)).1;
       narrowed = λ q.
           next_side (is_left_of q s) (list_all (is_left_of q) rest)
-          (subst (λ sides. (IsInRegion q c.loop-i.region × IsTrue (list_all (is_left_of q) sides)) ↔ IsTrue (is_in_polygon corners q)) first (c.loop-i.invariant.narrowed q))
+          (subst (λ sides. (IsInRegion q c.loop-i.region × IsTrue (list_all (is_left_of q) sides))
+          ↔ IsTrue (is_in_polygon corners q)) first (c.loop-i.invariant.narrowed q))
           (c.narrow_to_side.ensures q);
     }

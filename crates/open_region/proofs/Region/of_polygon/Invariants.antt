@@ -10,5 +10,7 @@ use Rattle.open_region.proofs.Region.of_polygon.Given as goal
 abbrev pub invariant-loop-i : goal.invariant-loop-i
 invariant-loop-i l = record {
   directed : IsTrue (list_all has_direction (sides_left l.corners l.i));
-  narrowed : (q : Position) → (IsInRegion q l.region × IsTrue (list_all (is_left_of q) (sides_left l.corners l.i))) ↔ IsTrue (is_in_polygon l.corners q);
+  narrowed : (q : Position)
+      → (IsInRegion q l.region × IsTrue (list_all (is_left_of q) (sides_left l.corners l.i)))
+      ↔ IsTrue (is_in_polygon l.corners q);
 }

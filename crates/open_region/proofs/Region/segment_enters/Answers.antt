@@ -17,6 +17,8 @@ returns c =
     let J = λ (z : Number). IsInInterval z c.along.result in
     enters_iff r s c.has_number.result I J c.has_number.ensures
     (λ z.
-    subst (λ (p : Point). J z ↔ (I z × IsInRegion (point_along (position_of p) (direction_number s % 8) z) r)) c.from.ensures.value
-    (subst (λ (k : ℕ). J z ↔ (I z × IsInRegion (point_along (position_of c.from.result.now) (k % 8) z) r)) (c.number.ensures ∙ c.dir.ensures.value) (c.along.ensures z)))
+    subst (λ (p : Point). J z
+    ↔ (I z × IsInRegion (point_along (position_of p) (direction_number s % 8) z) r)) c.from.ensures.value
+    (subst (λ (k : ℕ). J z ↔ (I z × IsInRegion (point_along (position_of c.from.result.now) (k % 8) z) r))
+    (c.number.ensures ∙ c.dir.ensures.value) (c.along.ensures z)))
     c.between_ends.ensures

@@ -24,7 +24,8 @@ returns-then-length-prefix-clause-walk c =
     let p = c.loop-position.position in
     let invariant = c.loop-position.invariant in
     let own : p.signs.list ≡ prefix =
-    begins_with-same prefix p.signs.list invariant.search.within.begins (omega (arith, ap length c.as_slice-length.ensures)) in
+    begins_with-same prefix p.signs.list invariant.search.within.begins
+    (omega (arith, ap length c.as_slice-length.ensures)) in
     let here : place_of p ≡ after prefix = place_at p true c.if-position.true ∙ ap after own in
     let none : remaining r prefix (place_of p) ≡ [] = ap (remaining r prefix) here ∙ nothing_left r prefix in
     (here, sym invariant.walked.same ∙ none, none, omega (arith, invariant.walked.count))
@@ -39,10 +40,15 @@ returns-then-length-pairs-clause-walk c =
     let within = invariant.search.within in
     let whole : length s ≡ r.pairs = omega (arith, ap length c.as_slice-length.ensures) in
     let here : place_of p ≡ before s = place_at p false c.if-position.false in
-    let walked = subst (λ q. Walked r prefix (place_of c.args.position.now) q c.loop-position.units) here invariant.walked in (
+    let walked = subst (λ q. Walked r prefix (place_of c.args.position.now) q c.loop-position.units) here
+    invariant.walked in (
       refl,
       sym walked.same ∙ found_first r prefix s within.begins within.consistent whole,
-      omega (arith, found_counts_none r prefix (place_of c.args.position.now) s c.loop-position.units whole walked),
+      omega (
+        arith,
+        found_counts_none r prefix
+            (place_of c.args.position.now) s c.loop-position.units whole walked,
+      ),
     )
 
 pub loop-position-smaller : goal.loop-position-smaller
@@ -51,10 +57,15 @@ loop-position-smaller c =
     let p = c.loop-position.position in
     let s = p.signs.list in
     let shorter : length s < r.pairs =
-    omega (arith, consistent-length r s c.loop-position.invariant.search.within.consistent, ap length c.as_slice-length.ensures) in
+    omega (
+      arith,
+      consistent-length r s c.loop-position.invariant.search.within.consistent,
+      ap length c.as_slice-length.ensures,
+    ) in
     let here : place_of p ≡ before s = place_at p false c.if-position.false in
     subst (λ q. place_steps q r.pairs < place_steps (place_of p) r.pairs) (sym c.descend.ensures.place)
-    (subst (λ q. place_steps (descended r s) r.pairs < place_steps q r.pairs) (sym here) (fewer_descended r s shorter))
+    (subst (λ q. place_steps (descended r s) r.pairs < place_steps q r.pairs) (sym here)
+    (fewer_descended r s shorter))
 
 pub loop-position-preserved : goal.loop-position-preserved
 loop-position-preserved c =
@@ -65,16 +76,19 @@ loop-position-preserved c =
     let a = place_of c.args.position.now in
     let invariant = c.loop-position.invariant in
     let within = invariant.search.within in
-    let shorter : length s < r.pairs = omega (arith, consistent-length r s within.consistent, ap length c.as_slice-length.ensures) in
+    let shorter : length s < r.pairs = omega
+    (arith, consistent-length r s within.consistent, ap length c.as_slice-length.ensures) in
     let here : place_of p ≡ before s = place_at p false c.if-position.false in
     let walked = walked-descended r prefix a s c.loop-position.units within.begins within.consistent shorter
     (subst (λ q. Walked r prefix a q c.loop-position.units) here invariant.walked) in
     record {
       search = record {
-        within = subst (λ (q : Place). IsWithin r prefix q.signs) (sym c.descend.ensures.place) (within_descended r prefix s within);
+        within = subst (λ (q : Place). IsWithin r prefix q.signs) (sym c.descend.ensures.place)
+            (within_descended r prefix s within);
         room = omega (arith, invariant.search.room, c.descend.ensures.room);
       };
-      walked = subst (λ q. Walked r prefix a q (c.loop-position.units + 1)) (sym c.descend.ensures.place) walked;
+      walked = subst (λ q. Walked r prefix a q (c.loop-position.units + 1))
+          (sym c.descend.ensures.place) walked;
       within = omega (arith, invariant.within);
     }
 
@@ -87,10 +101,18 @@ loop-position-smaller-then-position c =
     let front = last.0 in
     let sign = last.1 in
     let below : length front < r.pairs =
-    omega (arith, consistent-length r s c.loop-position.invariant.search.within.consistent, ap length last.2, length-append front (sign ∷ [])) in
-    let here : place_of p ≡ after (front ++ sign ∷ []) = place_at p true c.if-position.true ∙ ap after last.2 in
-    subst (λ q. place_steps q r.pairs < place_steps (place_of p) r.pairs) (sym (c.climb.ensures.place front sign last.2))
-    (subst (λ q. place_steps (climbed r front sign) r.pairs < place_steps q r.pairs) (sym here) (fewer_climbed r front sign below))
+    omega (
+      arith,
+      consistent-length r s c.loop-position.invariant.search.within.consistent,
+      ap length last.2,
+      length-append front (sign ∷ []),
+    ) in
+    let here : place_of p ≡ after (front ++ sign ∷ []) = place_at p true c.if-position.true
+    ∙ ap after last.2 in
+    subst (λ q. place_steps q r.pairs < place_steps (place_of p) r.pairs)
+    (sym (c.climb.ensures.place front sign last.2))
+    (subst (λ q. place_steps (climbed r front sign) r.pairs < place_steps q r.pairs) (sym here)
+    (fewer_climbed r front sign below))
 
 pub loop-position-preserved-then-position : goal.loop-position-preserved-then-position
 loop-position-preserved-then-position c =
@@ -103,7 +125,8 @@ loop-position-preserved-then-position c =
     let last = last_of s (omega (arith, ap length c.as_slice-length.ensures)) in
     let front = last.0 in
     let sign = last.1 in
-    let here : place_of p ≡ after (front ++ sign ∷ []) = place_at p true c.if-position.true ∙ ap after last.2 in
+    let here : place_of p ≡ after (front ++ sign ∷ []) = place_at p true c.if-position.true
+    ∙ ap after last.2 in
     let place = c.climb.ensures.place front sign last.2 in
     let within = subst (IsWithin r prefix) last.2 invariant.search.within in
     let below : length prefix ≤ length front =
@@ -112,7 +135,8 @@ loop-position-preserved-then-position c =
     (subst (λ q. Walked r prefix a q c.loop-position.units) here invariant.walked) in
     record {
       search = record {
-        within = subst (λ (q : Place). IsWithin r prefix q.signs) (sym place) (within_climbed r prefix front sign within below);
+        within = subst (λ (q : Place). IsWithin r prefix q.signs) (sym place)
+            (within_climbed r prefix front sign within below);
         room = omega (arith, invariant.search.room, c.climb.ensures.room);
       };
       walked = subst (λ q. Walked r prefix a q c.loop-position.units) (sym place) walked;

@@ -9,7 +9,8 @@ returns-in-Err-clause-input g c =
     let status : c.ended_without.result.status ≡ 6 = c.ended_without.ensures.status in (
       [],
       Consumes-nil (g.S.Source.left c.args.script.now),
-      none_read c.ended_without.result.status c.ended_without.result.events.list.items [] (omega (arith, status)) c.ended_without.ensures.events
+      none_read c.ended_without.result.status c.ended_without.result.events.list.items []
+          (omega (arith, status)) c.ended_without.ensures.events
           (λ five. absurd (omega (arith, five, status)))
           (λ _. inr status),
     )

@@ -8,7 +8,8 @@ returns-in-Err-clause-input g c =
     let status : c.ended_without-in-Err.result.status ≡ 6 = c.ended_without-in-Err.ensures.status in (
       lost.0,
       lost.2,
-      none_read c.ended_without-in-Err.result.status c.ended_without-in-Err.result.events.list.items lost.0 (omega (arith, status)) c.ended_without-in-Err.ensures.events
+      none_read c.ended_without-in-Err.result.status c.ended_without-in-Err.result.events.list.items lost.0
+          (omega (arith, status)) c.ended_without-in-Err.ensures.events
           (λ five. absurd (omega (arith, five, status)))
           (λ _. inr status),
     )

@@ -10,14 +10,17 @@ use Rattle.oriedita_cli.proofs.serving.serve_all.Goals as goal
 pub loop-command-init : goal.loop-command-init
 loop-command-init g c = record {
   split = sym c.into_iter-command-iterator.ensures.into_iter_gives.0;
-  condition = subst (λ (xs : List Command). list_all meets_condition xs ≡ true) (sym c.into_iter-command-iterator.ensures.into_iter_gives.0) c.requires;
+  condition = subst (λ (xs : List Command). list_all meets_condition xs ≡ true)
+      (sym c.into_iter-command-iterator.ensures.into_iter_gives.0) c.requires;
   served = serves_none c.args.session.now (g.K.Sink.taken c.args.out.now);
   faults = omega arith;
 }
 
 pub serve-requires : goal.serve-requires
 serve-requires g c =
-    (and_parts (meets_condition c.in-Some.command) _ (subst (λ (xs : List Command). list_all meets_condition xs ≡ true) c.in-Some.ensures.steps.0 c.loop-command.invariant.condition)).0
+    (and_parts (meets_condition c.in-Some.command) _
+    (subst (λ (xs : List Command). list_all meets_condition xs ≡ true) c.in-Some.ensures.steps.0
+    c.loop-command.invariant.condition)).0
 
 pub loop-command-preserved : goal.loop-command-preserved
 loop-command-preserved g c =
@@ -25,9 +28,13 @@ loop-command-preserved g c =
     let command = c.in-Some.command in
     let steps = c.in-Some.ensures.steps.0 in
     record {
-      split = c.loop-command.invariant.split ∙ ap (λ (xs : List Command). c.loop-command.yielded ++ xs) steps ∙ sym (append_assoc c.loop-command.yielded (command ∷ []) c.next.new.self.rest.items);
-      condition = (and_parts (meets_condition command) _ (subst (λ (xs : List Command). list_all meets_condition xs ≡ true) steps c.loop-command.invariant.condition)).1;
-      served = serves_both c.args.session.now c.loop-command.session c.serve.new.session (taken c.args.out.now) (taken c.loop-command.out) (taken c.serve.new.out)
+      split = c.loop-command.invariant.split ∙ ap (λ (xs : List Command). c.loop-command.yielded ++ xs) steps
+          ∙ sym (append_assoc c.loop-command.yielded (command ∷ []) c.next.new.self.rest.items);
+      condition = (and_parts (meets_condition command) _
+          (subst (λ (xs : List Command). list_all meets_condition xs ≡ true) steps
+          c.loop-command.invariant.condition)).1;
+      served = serves_both c.args.session.now c.loop-command.session c.serve.new.session
+          (taken c.args.out.now) (taken c.loop-command.out) (taken c.serve.new.out)
           c.loop-command.yielded (command ∷ []) c.loop-command.invariant.served c.in-Ok.ensures.serves;
       faults = omega (arith, c.loop-command.invariant.faults, c.in-Ok.ensures.faults_stay);
     }
@@ -35,7 +42,12 @@ loop-command-preserved g c =
 pub returns-in-Err-clause-serves : goal.returns-in-Err-clause-serves
 returns-in-Err-clause-serves g c =
     let taken = g.K.Sink.taken in
-    subst (λ (xs : List Command). StopsIn c.args.session.now c.serve.new.session (taken c.args.out.now) (taken c.serve.new.out) xs)
-    (sym (c.loop-command.invariant.split ∙ ap (λ (xs : List Command). c.loop-command.yielded ++ xs) c.in-Some.ensures.steps.0))
-    (serves_then_stops c.args.session.now c.loop-command.session c.serve.new.session (taken c.args.out.now) (taken c.loop-command.out) (taken c.serve.new.out)
-    c.loop-command.yielded (c.in-Some.command ∷ []) c.next.new.self.rest.items c.loop-command.invariant.served c.in-Err.ensures.serves)
+    subst (λ (xs : List Command). StopsIn c.args.session.now c.serve.new.session (taken c.args.out.now)
+    (taken c.serve.new.out) xs)
+    (sym (c.loop-command.invariant.split
+    ∙ ap (λ (xs : List Command). c.loop-command.yielded ++ xs) c.in-Some.ensures.steps.0))
+    (serves_then_stops c.args.session.now c.loop-command.session c.serve.new.session (taken c.args.out.now)
+    (taken c.loop-command.out) (taken c.serve.new.out)
+    c.loop-command.yielded
+    (c.in-Some.command ∷ []) c.next.new.self.rest.items c.loop-command.invariant.served
+    c.in-Err.ensures.serves)

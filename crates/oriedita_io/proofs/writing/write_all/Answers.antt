@@ -7,9 +7,12 @@ use Rattle.oriedita_io.specs.Told.{FinishedAfter-add}
 use Rattle.oriedita_io.proofs.writing.write_all.Goals as goal
 
 -- the front of the bytes, and then the front of the rest
-Appends-more : (a b c : Option (List ℕ)) (m n : ℕ) (bytes : List ℕ) → Appends a b (take m bytes) → Appends b c (take n (take (length bytes - m) (drop m bytes))) → Appends a c (take (m + n) bytes)
+Appends-more : (a b c : Option (List ℕ)) (m n : ℕ) (bytes : List ℕ) → Appends a b (take m bytes)
+    → Appends b c (take n (take (length bytes - m) (drop m bytes))) → Appends a c (take (m + n) bytes)
 Appends-more a b c m n bytes first second =
-    let joined : take m bytes ++ take n (take (length bytes - m) (drop m bytes)) ≡ take (m + n) bytes = rw (take_rest bytes m) (sym (take-add m n bytes)) in
+    let joined : take m bytes
+    ++ take n (take (length bytes - m) (drop m bytes)) ≡ take (m + n) bytes =
+    rw (take_rest bytes m) (sym (take-add m n bytes)) in
     subst (Appends a c) joined (Appends-trans a b c _ _ first second)
 
 -- the rest is as long as what was not written
@@ -24,7 +27,8 @@ loop-written-preserved g c =
     let some : 0 < c.in_ok-written.field-0 = step.some (omega arith) in
     record {
       within = omega arith;
-      appended = Appends-more _ _ _ c.loop-written.written c.in_ok-written.field-0 c.args.bytes.now before.appended step.bytes;
+      appended = Appends-more _ _ _ c.loop-written.written c.in_ok-written.field-0 c.args.bytes.now
+          before.appended step.bytes;
       finished = FinishedAfter-add _ _ _ _ _ before.finished step.finished;
       faults = omega (arith, before.faults, step.faults_stay);
       nothing = λ none. absurd (omega arith);

@@ -15,7 +15,8 @@ invariant_of-result c =
     record {
       stretch = (
         c.requires.order,
-        along_line s p q whole.stretch (on_parts p s whole.stretch c.requires.from_on).in_line (on_parts q s whole.stretch c.requires.to_on).in_line
+        along_line s p q whole.stretch (on_parts p s whole.stretch c.requires.from_on).in_line
+            (on_parts q s whole.stretch c.requires.to_on).in_line
             (positive_is _ (sym (before_is p q) ∙ c.requires.order)),
       );
     }

@@ -9,16 +9,21 @@ use Rattle.plane_geometry.proofs.Wides.{sgn_fits, dot_fits, dot_from_differences
 use Rattle.plane_geometry.proofs.sides.advance.Goals as goal
 
 pub dot-requires-clause-x_fits : goal.dot-requires-clause-x_fits
-dot-requires-clause-x_fits c = fits_more (2 ^ 53) (2 ^ 66) 16 (wide_number_of c.difference.result) (lit≤ tt) c.difference.ensures.fits
+dot-requires-clause-x_fits c =
+    fits_more (2 ^ 53) (2 ^ 66) 16 (wide_number_of c.difference.result) (lit≤ tt) c.difference.ensures.fits
 
 pub dot-requires-clause-y_fits : goal.dot-requires-clause-y_fits
-dot-requires-clause-y_fits c = fits_more (2 ^ 53) (2 ^ 66) 16 (wide_number_of c.difference-2.result) (lit≤ tt) c.difference-2.ensures.fits
+dot-requires-clause-y_fits c =
+    fits_more (2 ^ 53) (2 ^ 66) 16 (wide_number_of c.difference-2.result)
+    (lit≤ tt) c.difference-2.ensures.fits
 
 pub sgn-requires : goal.sgn-requires
 sgn-requires c =
     let r = wide_number_of c.dot.result in
     sgn_fits (3 * 2 ^ 53 + 3 * 2 ^ 53) r c.dot.result.stored.0 (lit≤ tt)
-    (dot_fits (dir_number c.args.dir) (2 ^ 53) r (wide_number_of c.difference.result) (wide_number_of c.difference-2.result) c.dot.ensures c.difference.ensures.fits c.difference-2.ensures.fits)
+    (dot_fits (dir_number c.args.dir) (2 ^ 53) r (wide_number_of c.difference.result)
+    (wide_number_of c.difference-2.result) c.dot.ensures c.difference.ensures.fits
+    c.difference-2.ensures.fits)
 
 pub returns : goal.returns
 returns c =
@@ -28,4 +33,6 @@ returns c =
     let r = wide_number_of c.dot.result in
     c.sgn.ensures
     ∙ sign_of-same r (dot_of d (vector_of p q))
-    (dot_from_differences r d p q (wide_number_of c.difference.result) (wide_number_of c.difference-2.result) c.difference.ensures.value c.difference-2.ensures.value c.dot.ensures)
+    (dot_from_differences r d p q (wide_number_of c.difference.result)
+    (wide_number_of c.difference-2.result) c.difference.ensures.value c.difference-2.ensures.value
+    c.dot.ensures)

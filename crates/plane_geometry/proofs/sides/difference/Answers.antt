@@ -8,7 +8,10 @@ pub minus-requires : goal.minus-requires
 minus-requires c =
     let m = wide_number_of c.of.result in
     let n = wide_number_of c.of-2.result in
-    wide_difference m n (fits_more (2 ^ 52) (2 ^ 76) 16 m (lit≤ tt) c.of.ensures.fits) (fits_more (2 ^ 52) (2 ^ 76) 16 n (lit≤ tt) c.of-2.ensures.fits)
+    wide_difference m n (fits_more (2 ^ 52) (2 ^ 76) 16 m (lit≤ tt) c.of.ensures.fits)
+    (fits_more (2 ^ 52) (2 ^ 76) 16 n (lit≤ tt) c.of-2.ensures.fits)
 
 pub returns-clause-fits : goal.returns-clause-fits
-returns-clause-fits c = difference_fits (wide_number_of c.minus.result) (wide_number_of c.of.result) (wide_number_of c.of-2.result) c.minus.ensures c.of.ensures.fits c.of-2.ensures.fits
+returns-clause-fits c =
+    difference_fits (wide_number_of c.minus.result) (wide_number_of c.of.result)
+    (wide_number_of c.of-2.result) c.minus.ensures c.of.ensures.fits c.of-2.ensures.fits

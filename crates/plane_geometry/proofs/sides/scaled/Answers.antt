@@ -8,7 +8,8 @@ use Rattle.plane_geometry.proofs.sides.scaled.Goals as goal
 
 pub negative-requires-in-MinusTangent : goal.negative-requires-in-MinusTangent
 negative-requires-in-MinusTangent c =
-    tangent_fits (wide_number_of c.times_tangent-in-MinusTangent.result) (wide_number_of c.args.w.now) c.times_tangent-in-MinusTangent.ensures c.requires
+    tangent_fits (wide_number_of c.times_tangent-in-MinusTangent.result)
+    (wide_number_of c.args.w.now) c.times_tangent-in-MinusTangent.ensures c.requires
 
 pub returns-in-One : goal.returns-in-One
 returns-in-One c =
@@ -29,4 +30,5 @@ returns-in-MinusTangent c =
     let z = wide_number_of c.times_tangent-in-MinusTangent.result in
     let r = wide_number_of c.negative-in-MinusTangent.result in
     let P : Part → Type 0 = λ part. IsSame r (product_of (part_number part) w) in
-    subst P (sym c.in-MinusTangent.is) (times_minus_tangent r z w c.negative-in-MinusTangent.ensures c.times_tangent-in-MinusTangent.ensures)
+    subst P (sym c.in-MinusTangent.is)
+    (times_minus_tangent r z w c.negative-in-MinusTangent.ensures c.times_tangent-in-MinusTangent.ensures)

@@ -9,16 +9,21 @@ use Rattle.plane_geometry.proofs.Wides.{sgn_fits, cross_fits, cross_from_differe
 use Rattle.plane_geometry.proofs.sides.side_from.Goals as goal
 
 pub cross-requires-clause-x_fits : goal.cross-requires-clause-x_fits
-cross-requires-clause-x_fits c = fits_more (2 ^ 53) (2 ^ 66) 16 (wide_number_of c.difference.result) (lit≤ tt) c.difference.ensures.fits
+cross-requires-clause-x_fits c =
+    fits_more (2 ^ 53) (2 ^ 66) 16 (wide_number_of c.difference.result) (lit≤ tt) c.difference.ensures.fits
 
 pub cross-requires-clause-y_fits : goal.cross-requires-clause-y_fits
-cross-requires-clause-y_fits c = fits_more (2 ^ 53) (2 ^ 66) 16 (wide_number_of c.difference-2.result) (lit≤ tt) c.difference-2.ensures.fits
+cross-requires-clause-y_fits c =
+    fits_more (2 ^ 53) (2 ^ 66) 16 (wide_number_of c.difference-2.result)
+    (lit≤ tt) c.difference-2.ensures.fits
 
 pub sgn-requires : goal.sgn-requires
 sgn-requires c =
     let r = wide_number_of c.cross.result in
     sgn_fits (3 * 2 ^ 53 + 3 * 2 ^ 53) r c.cross.result.stored.0 (lit≤ tt)
-    (cross_fits (dir_number c.args.dir) (2 ^ 53) r (wide_number_of c.difference.result) (wide_number_of c.difference-2.result) c.cross.ensures c.difference.ensures.fits c.difference-2.ensures.fits)
+    (cross_fits (dir_number c.args.dir) (2 ^ 53) r (wide_number_of c.difference.result)
+    (wide_number_of c.difference-2.result) c.cross.ensures c.difference.ensures.fits
+    c.difference-2.ensures.fits)
 
 pub returns : goal.returns
 returns c =
@@ -28,4 +33,6 @@ returns c =
     let r = wide_number_of c.cross.result in
     c.sgn.ensures
     ∙ sign_of-same r (cross_of d (vector_of q p))
-    (cross_from_differences r d q p (wide_number_of c.difference.result) (wide_number_of c.difference-2.result) c.difference.ensures.value c.difference-2.ensures.value c.cross.ensures)
+    (cross_from_differences r d q p (wide_number_of c.difference.result)
+    (wide_number_of c.difference-2.result) c.difference.ensures.value c.difference-2.ensures.value
+    c.cross.ensures)

@@ -6,4 +6,5 @@ pub times_unit-requires-clause-fits : goal.times_unit-requires-clause-fits
 times_unit-requires-clause-fits c = wide_tangent (wide_number_of c.args.w.now) c.requires
 
 pub returns : goal.returns
-returns c = tangent_product_is (wide_number_of c.times_unit.result) (wide_number_of c.args.w.now) c.times_unit.ensures
+returns c = tangent_product_is (wide_number_of c.times_unit.result)
+    (wide_number_of c.args.w.now) c.times_unit.ensures

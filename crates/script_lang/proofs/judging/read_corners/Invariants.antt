@@ -6,7 +6,8 @@ use Rattle.script_lang.proofs.judging.read_corners.Given as goal
 
 abbrev pub invariant-loop-x : goal.invariant-loop-x
 invariant-loop-x l = record {
-  points : points_after l.points.items (points_read l.place (words_of l.rest)) ≡ points_read 1 (words_of l.words);
+  points : points_after l.points.items (points_read l.place (words_of l.rest))
+      ≡ points_read 1 (words_of l.words);
   counted : 2 * length l.points.items + length (words_of l.rest) ≡ length (words_of l.words);
   placed : l.place ≡ 2 * length l.points.items + 1;
   is_count : IsTrue (is_sheet_count (length (words_of l.words)));

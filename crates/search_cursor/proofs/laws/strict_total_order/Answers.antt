@@ -4,7 +4,8 @@ use Rattle.search_cursor.specs.PlaceLaws.{not_itself}
 use Rattle.search_cursor.proofs.Orders.{transitive, total, same_place}
 use Rattle.search_cursor.proofs.laws.strict_total_order.Goals as goal
 
-of_total : (p q : Place) → (is_before p q ≡ true) ⊎ (((p.signs ≡ q.signs) × (p.past ≡ q.past)) ⊎ (is_before q p ≡ true))
+of_total : (p q : Place)
+    → (is_before p q ≡ true) ⊎ (((p.signs ≡ q.signs) × (p.past ≡ q.past)) ⊎ (is_before q p ≡ true))
     → (is_before p q ≡ true) ⊎ ((p ≡ q) ⊎ (is_before q p ≡ true))
 of_total p q (inl h) = inl h
 of_total p q (inr (inl e)) = inr (inl (same_place p q e.0 e.1))

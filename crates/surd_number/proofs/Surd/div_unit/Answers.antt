@@ -8,5 +8,8 @@ use Rattle.surd_number.proofs.Surd.div_unit.Goals as goal
 pub returns-clause-quotient : goal.returns-clause-quotient
 returns-clause-quotient c =
     let x = number_of c.args.self.now in
-    let value : triple_number_of c.times.result ≡ product_of x (unit_inverse_of c.args.i c.args.j) = c.times.ensures ∙ ap₂ product_of c.triple.ensures c.unit_inverse.ensures.value in
-    exactly_quotient c.args.i c.args.j x c.exactly.result (subst (λ (y : Number). IsExactly c.exactly.result y) value c.exactly.ensures)
+    let value : triple_number_of c.times.result
+    ≡ product_of x (unit_inverse_of c.args.i c.args.j) =
+    c.times.ensures ∙ ap₂ product_of c.triple.ensures c.unit_inverse.ensures.value in
+    exactly_quotient c.args.i c.args.j x c.exactly.result
+    (subst (λ (y : Number). IsExactly c.exactly.result y) value c.exactly.ensures)

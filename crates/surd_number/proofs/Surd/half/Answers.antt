@@ -9,4 +9,5 @@ pub returns-clause-twice : goal.returns-clause-twice
 returns-clause-twice c =
     let x = number_of c.args.self.now in
     let value : triple_number_of c.half.result ≡ half_of x = c.half.ensures ∙ ap half_of c.triple.ensures in
-    exactly_half x c.exactly.result (subst (λ (y : Number). IsExactly c.exactly.result y) value c.exactly.ensures)
+    exactly_half x c.exactly.result
+    (subst (λ (y : Number). IsExactly c.exactly.result y) value c.exactly.ensures)

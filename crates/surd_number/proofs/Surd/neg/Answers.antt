@@ -9,5 +9,9 @@ pub kept-requires : goal.kept-requires
 kept-requires c =
     let x = number_of c.args.self.now in
     let P : Number → Type 0 = IsStored in
-    let value : triple_number_of c.negated.result ≡ negative_of x = c.negated.ensures.value ∙ ap negative_of c.triple.ensures in
-    subst P (sym value) (canonical_negative x c.args.self.now.stored.0, within_negative 36 16 x c.args.self.now.stored.1)
+    let value : triple_number_of c.negated.result ≡ negative_of x = c.negated.ensures.value
+    ∙ ap negative_of c.triple.ensures in
+    subst P (sym value) (
+      canonical_negative x c.args.self.now.stored.0,
+      within_negative 36 16 x c.args.self.now.stored.1,
+    )

@@ -14,5 +14,7 @@ returns c =
     let p = position_of c.args.p.now in
     let o = line_offset_of c.through.result in
     iff_trans c.is_tighter.ensures
-    (less_right_same (turned_offset n (line_offset_of c.args.self.now)) (turned_offset n o) (cross_of (direction_vector n) p)
-    (subst (λ (k : ℕ). IsSame (turned_offset k o) (cross_of (direction_vector k) p)) c.numbered.ensures c.through.ensures))
+    (less_right_same (turned_offset n (line_offset_of c.args.self.now)) (turned_offset n o)
+    (cross_of (direction_vector n) p)
+    (subst (λ (k : ℕ). IsSame (turned_offset k o) (cross_of (direction_vector k) p)) c.numbered.ensures
+    c.through.ensures))

@@ -15,9 +15,14 @@ returns-then-n-lt8 c =
     let q = position_of c.args.q.now in
     let o = line_offset_of c.args.edge.now in
     let f = line_offset_of c.through-through.result in
-    let at : IsSame (turned_offset n f) (cross_of (direction_vector n) q) = subst (λ (k : ℕ). IsSame (turned_offset k f) (cross_of (direction_vector k) q)) c.numbered.ensures c.through-through.ensures in
+    let at : IsSame (turned_offset n f) (cross_of (direction_vector n) q) = subst
+    (λ (k : ℕ). IsSame (turned_offset k f) (cross_of (direction_vector k) q)) c.numbered.ensures
+    c.through-through.ensures in
     λ z. and_iff (c.narrowed.ensures z)
-    (offsets_as (cross_of (direction_vector n) (direction_vector c.args.along)) o f (wide_number_of c.offset.result.now) (wide_number_of c.offset-then-n-lt8.result.now) z c.offset.ensures.value c.offset-then-n-lt8.ensures.value
+    (offsets_as (cross_of (direction_vector n) (direction_vector c.args.along)) o f
+    (wide_number_of c.offset.result.now)
+    (wide_number_of c.offset-then-n-lt8.result.now) z c.offset.ensures.value
+    c.offset-then-n-lt8.ensures.value
     (left_along n c.args.along q o f z at (omega arith)))
 
 pub returns-else-n-lt8 : goal.returns-else-n-lt8
@@ -26,7 +31,12 @@ returns-else-n-lt8 c =
     let q = position_of c.args.q.now in
     let o = line_offset_of c.args.edge.now in
     let f = line_offset_of c.through-through.result in
-    let at : IsSame (turned_offset n f) (cross_of (direction_vector n) q) = subst (λ (k : ℕ). IsSame (turned_offset k f) (cross_of (direction_vector k) q)) c.numbered.ensures c.through-through.ensures in
+    let at : IsSame (turned_offset n f) (cross_of (direction_vector n) q) = subst
+    (λ (k : ℕ). IsSame (turned_offset k f) (cross_of (direction_vector k) q)) c.numbered.ensures
+    c.through-through.ensures in
     λ z. and_iff (c.narrowed-else-n-lt8.ensures z)
-    (offsets_as (cross_of (direction_vector c.args.along) (direction_vector (n - 8))) f o (wide_number_of c.offset-else-n-lt8.result.now) (wide_number_of c.offset-else-n-lt8-2.result.now) z c.offset-else-n-lt8.ensures.value c.offset-else-n-lt8-2.ensures.value
+    (offsets_as (cross_of (direction_vector c.args.along) (direction_vector (n - 8))) f o
+    (wide_number_of c.offset-else-n-lt8.result.now)
+    (wide_number_of c.offset-else-n-lt8-2.result.now) z c.offset-else-n-lt8.ensures.value
+    c.offset-else-n-lt8-2.ensures.value
     (left_along_opposite n c.args.along q o f z at (omega arith) c.requires.few))

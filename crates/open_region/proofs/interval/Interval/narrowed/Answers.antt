@@ -15,15 +15,23 @@ is_less-requires-clause-n_fits c = compared_fits (wide_number_of c.args.second.n
 pub returns-then-m-n : goal.returns-then-m-n
 returns-then-m-n c =
     λ y. and_iff (c.above.ensures y)
-    (rising_bound c.args.m c.args.n c.cross_unit-i.result.0 c.cross_unit-i.result.1 c.requires.few c.requires.few_others (wide_number_of c.args.first.now) (wide_number_of c.args.second.now) (limit_of c.quotient.result) y
+    (rising_bound c.args.m c.args.n c.cross_unit-i.result.0 c.cross_unit-i.result.1 c.requires.few
+    c.requires.few_others (wide_number_of c.args.first.now) (wide_number_of c.args.second.now)
+    (limit_of c.quotient.result) y
     c.if-m-n.true c.cross_unit-i.ensures.tangents c.cross_unit-i.ensures.roots c.quotient.ensures)
 
 pub returns-then-n-m : goal.returns-then-n-m
 returns-then-n-m c =
     λ y. and_iff (c.below.ensures y)
-    (falling_bound c.args.m c.args.n c.cross_unit-i-then-n-m.result.0 c.cross_unit-i-then-n-m.result.1 c.requires.few c.requires.few_others (wide_number_of c.args.first.now) (wide_number_of c.args.second.now) (limit_of c.quotient-then-n-m.result) y
-    c.if-n-m.true c.cross_unit-i-then-n-m.ensures.tangents c.cross_unit-i-then-n-m.ensures.roots c.quotient-then-n-m.ensures)
+    (falling_bound c.args.m c.args.n c.cross_unit-i-then-n-m.result.0 c.cross_unit-i-then-n-m.result.1
+    c.requires.few c.requires.few_others (wide_number_of c.args.first.now)
+    (wide_number_of c.args.second.now) (limit_of c.quotient-then-n-m.result) y
+    c.if-n-m.true c.cross_unit-i-then-n-m.ensures.tangents c.cross_unit-i-then-n-m.ensures.roots
+    c.quotient-then-n-m.ensures)
 
 pub returns-else-n-m : goal.returns-else-n-m
 returns-else-n-m c =
-    λ y. and_iff (c.kept.ensures y) (iff_trans c.is_less.ensures (level_bound c.args.m c.args.n 0 0 c.requires.few c.requires.few_others (wide_number_of c.args.first.now) (wide_number_of c.args.second.now) (wide_number_of c.args.first.now) y (omega arith)))
+    λ y. and_iff (c.kept.ensures y)
+    (iff_trans c.is_less.ensures (level_bound c.args.m c.args.n 0 0 c.requires.few c.requires.few_others
+    (wide_number_of c.args.first.now) (wide_number_of c.args.second.now)
+    (wide_number_of c.args.first.now) y (omega arith)))

@@ -4,8 +4,18 @@ use Rattle.open_region.proofs.Steps.{not_told}
 use Rattle.open_region.proofs.interval.Limit.greater.Goals as goal
 
 pub returns-then-is_below : goal.returns-then-is_below
-returns-then-is_below c = λ y. let m = limit_of c.args.self in let n = limit_of c.args.other in ((λ h. (IsLess-trans m n y (c.is_below.ensures.0 c.if-is_below.true) h, h)), λ h. h.1)
+returns-then-is_below c =
+    λ y. let m = limit_of c.args.self in let n = limit_of c.args.other
+    in ((λ h. (IsLess-trans m n y (c.is_below.ensures.0 c.if-is_below.true) h, h)), λ h. h.1)
 
 pub returns-else-is_below : goal.returns-else-is_below
 returns-else-is_below c =
-    λ y. let m = limit_of c.args.self in let n = limit_of c.args.other in ((λ h. (h, not_less-IsLess_trans n m y (not_told c.is_below.result c.if-is_below.false c.is_below.ensures) h)), λ h. h.0)
+    λ y. let m = limit_of c.args.self in let n = limit_of c.args.other
+    in (
+      (λ h. (
+        h,
+        not_less-IsLess_trans n m y
+            (not_told c.is_below.result c.if-is_below.false c.is_below.ensures) h,
+      )),
+      λ h. h.0,
+    )

@@ -12,6 +12,8 @@ returns-clause-cases c =
     by_cases (place_of c.args.self.now) (place_of c.args.other.now) c.stands_before.result
     (
     c.stands_before.ensures
-    ∙ ap (λ l. stands_before l c.args.self.now.past c.as_slice-2.result.now c.args.other.now.past) c.as_slice.ensures
-    ∙ ap (λ l. stands_before c.args.self.now.signs.list c.args.self.now.past l c.args.other.now.past) c.as_slice-2.ensures
+    ∙ ap (λ l. stands_before l c.args.self.now.past c.as_slice-2.result.now c.args.other.now.past)
+    c.as_slice.ensures
+    ∙ ap (λ l. stands_before c.args.self.now.signs.list c.args.self.now.past l c.args.other.now.past)
+    c.as_slice-2.ensures
     )

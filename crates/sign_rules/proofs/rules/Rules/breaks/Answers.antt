@@ -18,7 +18,8 @@ returns-clause-none c =
     ∙ ap is_some (sym c.loop-number.invariant)
     ∙ is_some-position_from (is_broken signs) number (drop number items)
     ∙ left in
-    let here : items ≡ c.args.self.now.rules = c.deref-rule-items.ensures.value ∙ ap (λ (v : RulesView). v.rules) c.self.view_is in (
+    let here : items ≡ c.args.self.now.rules = c.deref-rule-items.ensures.value
+    ∙ ap (λ (v : RulesView). v.rules) c.self.view_is in (
       λ _. and_from _ _ (le-leb (length signs) c.args.self.now.pairs c.requires)
           (ap not (ap (λ (rs : List Rule). list_any (is_broken signs) rs) (sym here) ∙ none)),
       λ _. refl,

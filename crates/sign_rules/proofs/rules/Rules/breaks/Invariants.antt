@@ -5,4 +5,5 @@ use Rattle.sign_rules.proofs.rules.Rules.breaks.Given as goal
 
 abbrev pub invariant-loop-number : goal.invariant-loop-number
 invariant-loop-number l =
-    position_from (is_broken l.signs) l.number (drop l.number l.rule-items) ≡ position_from (is_broken l.signs) 0 l.rule-items
+    position_from (is_broken l.signs) l.number (drop l.number l.rule-items)
+    ≡ position_from (is_broken l.signs) 0 l.rule-items

@@ -11,8 +11,10 @@ view_of p rs = record { pairs = p; rules = rs }
 pub returns-then-self-other : goal.returns-then-self-other
 unfolding view_of
 returns-then-self-other c =
-    let told = told_same rule.eq-value.it rule_is rule_same c.eq.result c.as_slice.result.now c.as_slice-then-self-other.result.now
-    c.self.inside.rules.items c.other.inside.rules.items c.eq.ensures c.as_slice.ensures.value c.as_slice-then-self-other.ensures.value in (
+    let told = told_same rule.eq-value.it rule_is rule_same c.eq.result c.as_slice.result.now
+    c.as_slice-then-self-other.result.now
+    c.self.inside.rules.items c.other.inside.rules.items c.eq.ensures c.as_slice.ensures.value
+    c.as_slice-then-self-other.ensures.value in (
       λ e.
           sym c.self.view_is
           ∙ ap (λ p. view_of p c.self.inside.rules.items) c.if-self-other.true
