@@ -41,7 +41,8 @@ not_both q r e f = let less = before_ray q r e in let more = before_ray r q f in
 with_ray_new : (qs : List Ray) (r : Ray) → Member (with_ray qs r) r
 with_ray_new [] r = inl refl
 with_ray_new (q ∷ qs) r =
-    cond_both (ltb (ray_number r) (ray_number q)) (r ∷ q ∷ qs) (q ∷ with_ray qs r) (λ rs. Member rs r) (λ e. inl refl) (λ e. inr (with_ray_new qs r))
+    cond_both (ltb (ray_number r) (ray_number q)) (r ∷ q ∷ qs) (q ∷ with_ray qs r) (λ rs. Member rs r)
+    (λ e. inl refl) (λ e. inr (with_ray_new qs r))
 
 with_ray_old : (qs : List Ray) (r z : Ray) → Member qs z → Member (with_ray qs r) z
 with_ray_old [] r z m = absurd m
@@ -52,36 +53,48 @@ with_ray_old (q ∷ qs) r z m =
 with_ray_either : (qs : List Ray) (r z : Ray) → Member (with_ray qs r) z → (r ≡ z) ⊎ Member qs z
 with_ray_either [] r z = λ m. m
 with_ray_either (q ∷ qs) r z =
-    cond_both (ltb (ray_number r) (ray_number q)) (r ∷ q ∷ qs) (q ∷ with_ray qs r) (λ rs. Member rs z → (r ≡ z) ⊎ Member (q ∷ qs) z)
+    cond_both (ltb (ray_number r) (ray_number q)) (r ∷ q ∷ qs) (q ∷ with_ray qs r)
+    (λ rs. Member rs z → (r ≡ z) ⊎ Member (q ∷ qs) z)
     (λ e m. m)
-    (λ e m. elim m [ inl f ↦ inr (inl f) | inr n ↦ elim (with_ray_either qs r z n) [ inl f ↦ inl f | inr k ↦ inr (inr k) ] ])
+    (λ e m. elim m [
+      | inl f ↦ inr (inl f)
+      | inr n ↦ elim
+          (with_ray_either qs r z n) [ inl f ↦ inl f | inr k ↦ inr (inr k) ]
+    ])
 
 -- no ray of the list has the number of r
 abbrev IsNew : List Ray → Ray → Type 0
 IsNew qs r = (q : Ray) → Member qs q → ray_number q ≡ ray_number r → ⊥
 
-with_ray_sorted : (qs : List Ray) (r : Ray) → IsStrictlySortedBy compare_rays qs → IsNew qs r → IsStrictlySortedBy compare_rays (with_ray qs r)
+with_ray_sorted : (qs : List Ray) (r : Ray) → IsStrictlySortedBy compare_rays qs → IsNew qs r
+    → IsStrictlySortedBy compare_rays (with_ray qs r)
 with_ray_sorted [] r up new = sorted_single compare_rays r
 with_ray_sorted (q ∷ qs) r up new =
-    cond_both (ltb (ray_number r) (ray_number q)) (r ∷ q ∷ qs) (q ∷ with_ray qs r) (λ rs. IsStrictlySortedBy compare_rays rs)
+    cond_both (ltb (ray_number r) (ray_number q)) (r ∷ q ∷ qs) (q ∷ with_ray qs r)
+    (λ rs. IsStrictlySortedBy compare_rays rs)
     (λ e. sorted_cons compare_rays r (q ∷ qs) (first (ltb-true (ray_number r) (ray_number q) e)) up)
-    (λ e. sorted_cons compare_rays q (with_ray qs r) (later (ltb-false (ray_number r) (ray_number q) e)) (with_ray_sorted qs r (sorted_rest compare_rays q qs up) (λ z m. new z (inr m))))
+    (λ e. sorted_cons compare_rays q (with_ray qs r) (later (ltb-false (ray_number r) (ray_number q) e))
+    (with_ray_sorted qs r (sorted_rest compare_rays q qs up) (λ z m. new z (inr m))))
   where
     first : ray_number r < ray_number q → (z : Ray) → Member (q ∷ qs) z → compare_rays r z ≡ Less
     first less z (inl e) = ray_before r z (omega (arith, less, ap ray_number e))
-    first less z (inr m) = let more = before_ray q z (before_members compare_rays q qs z up m) in ray_before r z (omega (arith, less, more))
+    first less z (inr m) =
+        let more = before_ray q z (before_members compare_rays q qs z up m)
+        in ray_before r z (omega (arith, less, more))
 
     later : ray_number q ≤ ray_number r → (z : Ray) → Member (with_ray qs r) z → compare_rays q z ≡ Less
     later least z m =
         elim (with_ray_either qs r z m) [
-          | inl e ↦ ray_before q z (let differs = new q (inl refl) in omega (arith, least, differs, ap ray_number e))
+          | inl e ↦ ray_before q z
+              (let differs = new q (inl refl) in omega (arith, least, differs, ap ray_number e))
           | inr n ↦ before_members compare_rays q qs z up n
         ]
 
 -- ---- how a piece leaves a point
 
 pub same_point : (p q : Point) → is_same_position (position_of p) (position_of q) ≡ true → p ≡ q
-same_point p q e = point_is p q (zero_is (order_of (position_of p) (position_of q)) (sym (same_is (position_of p) (position_of q)) ∙ e))
+same_point p q e = point_is p q
+    (zero_is (order_of (position_of p) (position_of q)) (sym (same_is (position_of p) (position_of q)) ∙ e))
 
 pub same_itself : (p : Point) → is_same_position (position_of p) (position_of p) ≡ true
 same_itself p = same_is (position_of p) (position_of p) ∙ ap is_zero (order_self (position_of p))
@@ -106,19 +119,27 @@ module _ (v : Point) (p : Piece) where
   back = ray_of p (direction_number p.segment + 8)
 
   pub ends_differ : is_same_position (position_of low) (position_of high) ≡ false
-  ends_differ = same_is (position_of low) (position_of high) ∙ ap is_zero (ends_order (stretch_of p.segment) p.segment.stretch)
+  ends_differ = same_is (position_of low) (position_of high)
+      ∙ ap is_zero (ends_order (stretch_of p.segment) p.segment.stretch)
 
   pub leaves : (r : Ray) → ray_at v p ≡ Some r → Leaves v p r
   leaves r =
-      cond_both begins (Some onward) (cond arrives (Some back) None) (λ (o : Option Ray). o ≡ Some r → Leaves v p r)
+      cond_both begins (Some onward) (cond arrives (Some back) None)
+      (λ (o : Option Ray). o ≡ Some r → Leaves v p r)
       (λ e f. inl (same_point low v e, cc))
-      (λ e. cond_both arrives (Some back) None (λ (o : Option Ray). o ≡ Some r → Leaves v p r) (λ f g. inr (same_point high v f, cc)) (λ f g. absurd (cc)))
+      (λ e. cond_both arrives (Some back) None (λ (o : Option Ray). o ≡ Some r → Leaves v p r)
+      (λ f g. inr (same_point high v f, cc)) (λ f g. absurd (cc)))
 
   pub left : (r : Ray) → Leaves v p r → ray_at v p ≡ Some r
-  left r (inl h) = cond-true begins (Some onward) (cond arrives (Some back) None) (ap (λ (t : Point). is_same_position (position_of low) (position_of t)) (sym h.0) ∙ same_itself low) ∙ ap Some (sym h.1)
+  left r (inl h) = cond-true begins (Some onward) (cond arrives (Some back) None)
+      (ap (λ (t : Point). is_same_position (position_of low) (position_of t)) (sym h.0) ∙ same_itself low)
+      ∙ ap Some (sym h.1)
   left r (inr h) =
-      cond-false begins (Some onward) (cond arrives (Some back) None) (ap (λ (t : Point). is_same_position (position_of low) (position_of t)) (sym h.0) ∙ ends_differ)
-      ∙ cond-true arrives (Some back) None (ap (λ (t : Point). is_same_position (position_of high) (position_of t)) (sym h.0) ∙ same_itself high)
+      cond-false begins (Some onward) (cond arrives (Some back) None)
+      (ap (λ (t : Point). is_same_position (position_of low) (position_of t)) (sym h.0) ∙ ends_differ)
+      ∙ cond-true arrives (Some back) None
+      (ap (λ (t : Point). is_same_position (position_of high) (position_of t)) (sym h.0)
+      ∙ same_itself high)
       ∙ ap Some (sym h.1)
 
 -- ---- of all pieces
@@ -134,9 +155,11 @@ module _ (v : Point) where
 
   new_ray : (qs : List Ray) (o : Option Ray) (z : Ray) → o ≡ Some z → Member (with_ray_if qs o) z
   new_ray qs None z e = absurd (cc)
-  new_ray qs (Some r) z e = let same : r ≡ z = cc in subst (λ (t : Ray). Member (with_ray qs r) t) same (with_ray_new qs r)
+  new_ray qs (Some r) z e =
+      let same : r ≡ z = cc in subst (λ (t : Ray). Member (with_ray qs r) t) same (with_ray_new qs r)
 
-  either_ray : (qs : List Ray) (o : Option Ray) (z : Ray) → Member (with_ray_if qs o) z → (o ≡ Some z) ⊎ Member qs z
+  either_ray : (qs : List Ray) (o : Option Ray) (z : Ray) → Member (with_ray_if qs o) z
+      → (o ≡ Some z) ⊎ Member qs z
   either_ray qs None z m = inr m
   either_ray qs (Some r) z m = elim (with_ray_either qs r z m) [ inl e ↦ inl (ap Some e) | inr n ↦ inr n ]
 
@@ -144,12 +167,15 @@ module _ (v : Point) where
   old [] qs z m = m
   old (p ∷ ps) qs z m = old ps (with_ray_if qs (ray_at v p)) z (old_ray qs (ray_at v p) z m)
 
-  new : (ps : List Piece) (qs : List Ray) (p : Piece) (z : Ray) → Member ps p → ray_at v p ≡ Some z → Member (fan_from v ps qs) z
+  new : (ps : List Piece) (qs : List Ray) (p : Piece) (z : Ray) → Member ps p → ray_at v p ≡ Some z
+      → Member (fan_from v ps qs) z
   new [] qs p z m e = absurd m
-  new (x ∷ ps) qs p z (inl f) e = old ps (with_ray_if qs (ray_at v x)) z (new_ray qs (ray_at v x) z (ap (ray_at v) f ∙ e))
+  new (x ∷ ps) qs p z (inl f) e =
+      old ps (with_ray_if qs (ray_at v x)) z (new_ray qs (ray_at v x) z (ap (ray_at v) f ∙ e))
   new (x ∷ ps) qs p z (inr m) e = new ps (with_ray_if qs (ray_at v x)) p z m e
 
-  either : (ps : List Piece) (qs : List Ray) (z : Ray) → Member (fan_from v ps qs) z → IsRay ps z ⊎ Member qs z
+  either : (ps : List Piece) (qs : List Ray) (z : Ray) → Member (fan_from v ps qs) z
+      → IsRay ps z ⊎ Member qs z
   either [] qs z m = inr m
   either (p ∷ ps) qs z m =
       elim (either ps (with_ray_if qs (ray_at v p)) z m) [
@@ -161,23 +187,30 @@ module _ (v : Point) where
   abbrev AreNew : List Piece → List Ray → Type 0
   AreNew ps qs = (p : Piece) (r : Ray) → Member ps p → ray_at v p ≡ Some r → IsNew qs r
 
-  step_sorted : (qs : List Ray) (o : Option Ray) → IsStrictlySortedBy compare_rays qs → ((r : Ray) → o ≡ Some r → IsNew qs r) → IsStrictlySortedBy compare_rays (with_ray_if qs o)
+  step_sorted : (qs : List Ray) (o : Option Ray) → IsStrictlySortedBy compare_rays qs
+      → ((r : Ray) → o ≡ Some r → IsNew qs r) → IsStrictlySortedBy compare_rays (with_ray_if qs o)
   step_sorted qs None up new = up
   step_sorted qs (Some r) up new = with_ray_sorted qs r up (new r refl)
 
-  step_new : (p : Piece) (ps : List Piece) (qs : List Ray) → AllMeetAtEnds (p ∷ ps) → AreNew (p ∷ ps) qs → AreNew ps (with_ray_if qs (ray_at v p))
+  step_new : (p : Piece) (ps : List Piece) (qs : List Ray) → AllMeetAtEnds (p ∷ ps) → AreNew (p ∷ ps) qs
+      → AreNew ps (with_ray_if qs (ray_at v p))
   step_new p ps qs all new q r m e z n same =
       elim (either_ray qs (ray_at v p) z n) [
-        | inl f ↦ leave_apart v p q (all_member (λ (x : Piece). MeetAtEnds (stretch_of p.segment) (stretch_of x.segment)) ps q all.0 m) z r (leaves v p z f) (leaves v q r e) same
+        | inl f ↦ leave_apart v p q
+            (all_member (λ (x : Piece). MeetAtEnds (stretch_of p.segment) (stretch_of x.segment)) ps q all.0
+            m) z r (leaves v p z f) (leaves v q r e) same
         | inr k ↦ new q r (inr m) e z k same
       ]
 
-  sorted : (ps : List Piece) (qs : List Ray) → AllMeetAtEnds ps → IsStrictlySortedBy compare_rays qs → AreNew ps qs → IsStrictlySortedBy compare_rays (fan_from v ps qs)
+  sorted : (ps : List Piece) (qs : List Ray) → AllMeetAtEnds ps → IsStrictlySortedBy compare_rays qs
+      → AreNew ps qs → IsStrictlySortedBy compare_rays (fan_from v ps qs)
   sorted [] qs all up new = up
   sorted (p ∷ ps) qs all up new =
-      sorted ps (with_ray_if qs (ray_at v p)) all.1 (step_sorted qs (ray_at v p) up (λ r e. new p r (inl refl) e)) (step_new p ps qs all new)
+      sorted ps (with_ray_if qs (ray_at v p)) all.1
+      (step_sorted qs (ray_at v p) up (λ r e. new p r (inl refl) e)) (step_new p ps qs all new)
 
-  from_either : (ps : List Piece) (r : Ray) → IsRay ps r ⊎ Member [] r → (p : Piece) × Contains ps p × Leaves v p r
+  from_either : (ps : List Piece) (r : Ray) → IsRay ps r ⊎ Member [] r
+      → (p : Piece) × Contains ps p × Leaves v p r
   from_either ps r (inl h) = (h.0, contained ps h.0 h.1, leaves v h.0 r h.2)
   from_either ps r (inr n) = absurd n
 
@@ -204,4 +237,5 @@ fan_is_one pattern v rules =
 
 pub directions_differ : DirectionsDiffer
 directions_differ pattern v p q r t rules a b l k e =
-    leave_once v pattern.pieces p q r t rules.meetings (member pattern.pieces p a) (member pattern.pieces q b) l k e
+    leave_once v pattern.pieces p q r t rules.meetings (member pattern.pieces p a)
+    (member pattern.pieces q b) l k e

@@ -23,17 +23,20 @@ use Rattle.vertex_checks.specs.Fan.{ray_number, Leaves}
 
 -- ---- stretches on one ray
 
-module _ (s u : Stretch) (h : IsStretch s) (k : IsStretch u) (meets : MeetAtEnds s u) (same : s.dir ≡ u.dir) where
+module _ (s u : Stretch) (h : IsStretch s) (k : IsStretch u) (meets : MeetAtEnds s u)
+    (same : s.dir ≡ u.dir) where
   not_same : has_same_ends s u ≡ false
   not_same =
       let e = (meeting_is s u h k).1 meets in
-      let a = and_parts (not (is_crossing s u)) (not (has_same_ends s u) && (ends_at_ends s u && ends_at_ends u s)) e in
+      let a = and_parts (not (is_crossing s u))
+      (not (has_same_ends s u) && (ends_at_ends s u && ends_at_ends u s)) e in
       not-true _ (and_parts (not (has_same_ends s u)) (ends_at_ends s u && ends_at_ends u s) a.1).0
 
   -- both go on from one point, and s doesn't end after u
   not_onward : order_of u.from s.from ≡ Zero → is_negative (order_of s.to u.to) ≡ false → ⊥
   not_onward from least =
-      let in_line : side_of u.from s.dir s.to ≡ Zero = side_from u.from s.dir s.from s.to (side_same u.from s.dir s.from from) ∙ to_in_line s h in
+      let in_line : side_of u.from s.dir s.to
+      ≡ Zero = side_from u.from s.dir s.from s.to (side_same u.from s.dir s.from from) ∙ to_in_line s h in
       let lies : LiesOn s.to u =
       record {
         in_line = ap (λ (n : ℕ). side_of u.from n s.to) (sym same) ∙ in_line;
@@ -41,31 +44,37 @@ module _ (s u : Stretch) (h : IsStretch s) (k : IsStretch u) (meets : MeetAtEnds
         before_to = least;
       } in
       let end = (meets s.to (on_from_parts s.to s h (to_lies s h)) (on_from_parts s.to u k lies)).1 in
-      both_ways (has_same_ends s u) not_same (and_from (is_end s.from u) (is_end s.to u) (end_from s.from u from) end)
+      both_ways (has_same_ends s u) not_same
+      (and_from (is_end s.from u) (is_end s.to u) (end_from s.from u from) end)
 
   -- both arrive at one point, and s doesn't begin before u
   not_back : order_of s.to u.to ≡ Zero → is_negative (order_of u.from s.from) ≡ false → ⊥
   not_back to least =
       let n = u.dir in
-      let line : side_of s.from n s.to ≡ Zero = ap (λ (m : ℕ). side_of s.from m s.to) (sym same) ∙ to_in_line s h in
+      let line : side_of s.from n s.to ≡ Zero = ap (λ (m : ℕ). side_of s.from m s.to) (sym same)
+      ∙ to_in_line s h in
       let lies : LiesOn s.from u =
       record {
-        in_line = sym (side_to u.from n s.from s.to line) ∙ sym (side_to u.from n s.to u.to (side_same s.to n u.to to)) ∙ to_in_line u k;
+        in_line = sym (side_to u.from n s.from s.to line)
+            ∙ sym (side_to u.from n s.to u.to (side_same s.to n u.to to)) ∙ to_in_line u k;
         after_from = least;
         before_to = ap is_negative (order_to s.from s.to u.to to ∙ ends_order s h);
       } in
       let end = (meets s.from (on_from_parts s.from s h (from_lies s h)) (on_from_parts s.from u k lies)).1 in
-      both_ways (has_same_ends s u) not_same (and_from (is_end s.from u) (is_end s.to u) end (end_to s.to u to))
+      both_ways (has_same_ends s u) not_same
+      (and_from (is_end s.from u) (is_end s.to u) end (end_to s.to u to))
 
 swapped : (s u : Stretch) → MeetAtEnds s u → MeetAtEnds u s
 swapped s u w p on_u on_s = let h = w p on_s on_u in (h.1, h.0)
 
-module _ (s u : Stretch) (h : IsStretch s) (k : IsStretch u) (meets : MeetAtEnds s u) (same : s.dir ≡ u.dir) where
+module _ (s u : Stretch) (h : IsStretch s) (k : IsStretch u) (meets : MeetAtEnds s u)
+    (same : s.dir ≡ u.dir) where
   no_start : order_of u.from s.from ≡ Zero → ⊥
   no_start from = go (order_of s.to u.to) refl
     where
       go : (r : Sgn) → order_of s.to u.to ≡ r → ⊥
-      go Neg e = not_onward u s k h (swapped s u meets) (sym same) (turned_zero u.from s.from from) (ap is_negative (order_turned s.to u.to ∙ ap opposite_sign e))
+      go Neg e = not_onward u s k h (swapped s u meets) (sym same) (turned_zero u.from s.from from)
+          (ap is_negative (order_turned s.to u.to ∙ ap opposite_sign e))
       go Zero e = not_onward s u h k meets same from (ap is_negative e)
       go Pos e = not_onward s u h k meets same from (ap is_negative e)
 
@@ -73,7 +82,8 @@ module _ (s u : Stretch) (h : IsStretch s) (k : IsStretch u) (meets : MeetAtEnds
   no_arrival to = go (order_of u.from s.from) refl
     where
       go : (r : Sgn) → order_of u.from s.from ≡ r → ⊥
-      go Neg e = not_back u s k h (swapped s u meets) (sym same) (turned_zero s.to u.to to) (ap is_negative (order_turned u.from s.from ∙ ap opposite_sign e))
+      go Neg e = not_back u s k h (swapped s u meets) (sym same) (turned_zero s.to u.to to)
+          (ap is_negative (order_turned u.from s.from ∙ ap opposite_sign e))
       go Zero e = not_back s u h k meets same to (ap is_negative e)
       go Pos e = not_back s u h k meets same to (ap is_negative e)
 
@@ -82,7 +92,8 @@ module _ (s u : Stretch) (h : IsStretch s) (k : IsStretch u) (meets : MeetAtEnds
 forward : (s : Segment) → lex_sign (direction_vector (direction_number s)) ≡ Pos
 forward s =
     let S = stretch_of s in
-    sym (along_lex (direction_vector S.dir) (vector_of S.from S.to) (square_sign S.dir) (to_in_line S s.stretch)
+    sym (along_lex (direction_vector S.dir) (vector_of S.from S.to) (square_sign S.dir)
+    (to_in_line S s.stretch)
     ∙ ap (λ (t : Sgn). times_sign t (lex_sign (direction_vector S.dir))) (along_sign S s.stretch))
     ∙ ends_order S s.stretch
 
@@ -91,19 +102,22 @@ not_opposite : (s u : Segment) → direction_number s ≡ opposite_number (direc
 not_opposite s u e =
     let n = direction_number s in
     let U = stretch_of u in
-    let back : is_along n U.to U.from ≡ true = ap (λ (m : ℕ). is_along m U.to U.from) e ∙ along_back U.dir U.from U.to (omega (arith, u.dir.in_range)) ∙ u.stretch.1 in
+    let back : is_along n U.to U.from ≡ true = ap (λ (m : ℕ). is_along m U.to U.from) e
+    ∙ along_back U.dir U.from U.to (omega (arith, u.dir.in_range)) ∙ u.stretch.1 in
     let parts = along_parts n U.to U.from back in
     let later : order_of U.to U.from ≡ Pos =
     along_lex (direction_vector n) (vector_of U.to U.from) (square_sign n) parts.0
     ∙ ap (λ (t : Sgn). times_sign t (lex_sign (direction_vector n))) parts.1
     ∙ forward s in
-    let clash : Pos ≡ Neg = sym (ends_order U u.stretch) ∙ order_turned U.to U.from ∙ ap opposite_sign later in
+    let clash : Pos ≡ Neg = sym (ends_order U u.stretch) ∙ order_turned U.to U.from
+    ∙ ap opposite_sign later in
     cc
 
 -- ---- pieces
 
 one_place : (v p q : Point) → p ≡ v → q ≡ v → order_of (position_of q) (position_of p) ≡ Zero
-one_place v p q e f = ap (λ (t : Point). order_of (position_of t) (position_of p)) (f ∙ sym e) ∙ order_self (position_of p)
+one_place v p q e f =
+    ap (λ (t : Point). order_of (position_of t) (position_of p)) (f ∙ sym e) ∙ order_self (position_of p)
 
 module _ (v : Point) (p q : Piece) (meets : MeetAtEnds (stretch_of p.segment) (stretch_of q.segment)) where
   abbrev m : ℕ
@@ -115,7 +129,8 @@ module _ (v : Point) (p q : Piece) (meets : MeetAtEnds (stretch_of p.segment) (s
   pub leave_apart : (r t : Ray) → Leaves v p r → Leaves v q t → ray_number r ≡ ray_number t → ⊥
   leave_apart r t (inl a) (inl b) e =
       let numbers : m % 16 ≡ n % 16 = sym (ap ray_number a.1) ∙ e ∙ ap ray_number b.1 in
-      no_start (stretch_of p.segment) (stretch_of q.segment) p.segment.stretch q.segment.stretch meets (omega (arith, numbers, p.segment.dir.in_range, q.segment.dir.in_range))
+      no_start (stretch_of p.segment) (stretch_of q.segment) p.segment.stretch q.segment.stretch meets
+      (omega (arith, numbers, p.segment.dir.in_range, q.segment.dir.in_range))
       (one_place v (lesser_end p.segment) (lesser_end q.segment) a.0 b.0)
   leave_apart r t (inl a) (inr b) e =
       let numbers : m % 16 ≡ (n + 8) % 16 = sym (ap ray_number a.1) ∙ e ∙ ap ray_number b.1 in
@@ -125,15 +140,21 @@ module _ (v : Point) (p q : Piece) (meets : MeetAtEnds (stretch_of p.segment) (s
       not_opposite q.segment p.segment (omega (arith, numbers, q.segment.dir.in_range))
   leave_apart r t (inr a) (inr b) e =
       let numbers : (m + 8) % 16 ≡ (n + 8) % 16 = sym (ap ray_number a.1) ∙ e ∙ ap ray_number b.1 in
-      no_arrival (stretch_of p.segment) (stretch_of q.segment) p.segment.stretch q.segment.stretch meets (omega (arith, numbers, p.segment.dir.in_range, q.segment.dir.in_range))
+      no_arrival (stretch_of p.segment) (stretch_of q.segment) p.segment.stretch q.segment.stretch meets
+      (omega (arith, numbers, p.segment.dir.in_range, q.segment.dir.in_range))
       (one_place v (greater_end q.segment) (greater_end p.segment) b.0 a.0)
 
 -- two pieces that leave a point in one direction are one piece
-pub leave_once : (v : Point) (ps : List Piece) (p q : Piece) (r t : Ray) → AllMeetAtEnds ps → Member ps p → Member ps q → Leaves v p r → Leaves v q t → ray_number r ≡ ray_number t → p ≡ q
+pub leave_once : (v : Point) (ps : List Piece) (p q : Piece) (r t : Ray) → AllMeetAtEnds ps → Member ps p
+    → Member ps q → Leaves v p r → Leaves v q t → ray_number r ≡ ray_number t → p ≡ q
 leave_once v [] p q r t all a b l k e = absurd a
 leave_once v (x ∷ xs) p q r t all (inl a) (inl b) l k e = sym a ∙ b
 leave_once v (x ∷ xs) p q r t all (inl a) (inr b) l k e =
-    absurd (leave_apart v x q (all_member (λ (z : Piece). MeetAtEnds (stretch_of x.segment) (stretch_of z.segment)) xs q all.0 b) r t (subst (λ (z : Piece). Leaves v z r) (sym a) l) k e)
+    absurd (leave_apart v x q
+    (all_member (λ (z : Piece). MeetAtEnds (stretch_of x.segment) (stretch_of z.segment)) xs q all.0 b) r
+    t (subst (λ (z : Piece). Leaves v z r) (sym a) l) k e)
 leave_once v (x ∷ xs) p q r t all (inr a) (inl b) l k e =
-    absurd (leave_apart v x p (all_member (λ (z : Piece). MeetAtEnds (stretch_of x.segment) (stretch_of z.segment)) xs p all.0 a) t r (subst (λ (z : Piece). Leaves v z t) (sym b) k) l (sym e))
+    absurd (leave_apart v x p
+    (all_member (λ (z : Piece). MeetAtEnds (stretch_of x.segment) (stretch_of z.segment)) xs p all.0 a) t
+    r (subst (λ (z : Piece). Leaves v z t) (sym b) k) l (sym e))
 leave_once v (x ∷ xs) p q r t all (inr a) (inr b) l k e = leave_once v xs p q r t all.1 a b l k e

@@ -23,15 +23,23 @@ use Rattle.vertex_checks.specs.Faults.{comes_round, kawasaki_faults, differ_by_t
 
 -- ---- vertices
 
-inner_length : (corners points : List Point) (v : Point) → length (with_inner corners points v) ≤ length points + 1
+inner_length : (corners points : List Point) (v : Point)
+    → length (with_inner corners points v) ≤ length points + 1
 inner_length corners points v =
-    elim (is_inside (place_of corners (position_of v))) as (λ b. length (cond b (with_point points v) points) ≤ length points + 1)
+    elim (is_inside (place_of corners (position_of v))) as
+    (λ b. length (cond b (with_point points v) points) ≤ length points + 1)
     [ true ↦ with_point_length points v | false ↦ omega arith ]
 
-vertices_from_length : (corners : List Point) (pieces : List Piece) (points : List Point) → length (vertices_from corners pieces points) ≤ length points + 2 * length pieces
+vertices_from_length : (corners : List Point) (pieces : List Piece) (points : List Point)
+    → length (vertices_from corners pieces points) ≤ length points + 2 * length pieces
 vertices_from_length corners [] points = omega arith
 vertices_from_length corners (p ∷ ps) points =
-    omega (arith, vertices_from_length corners ps (with_inner_ends corners points p), inner_length corners points (lesser_end p.segment), inner_length corners (with_inner corners points (lesser_end p.segment)) (greater_end p.segment))
+    omega (
+      arith,
+      vertices_from_length corners ps (with_inner_ends corners points p),
+      inner_length corners points (lesser_end p.segment),
+      inner_length corners (with_inner corners points (lesser_end p.segment)) (greater_end p.segment),
+    )
 
 -- ---- fans
 
@@ -39,15 +47,19 @@ with_ray_length : (rays : List Ray) (r : Ray) → length (with_ray rays r) ≤ l
 with_ray_length [] r = omega arith
 with_ray_length (q ∷ qs) r =
     let more = with_ray_length qs r in
-    elim (nat_lt (ray_number r) (ray_number q)) as (λ b. length (cond b (r ∷ q ∷ qs) (q ∷ with_ray qs r)) ≤ length (q ∷ qs) + 1) [ true ↦ omega arith | false ↦ omega (arith, more) ]
+    elim (nat_lt (ray_number r) (ray_number q)) as
+    (λ b. length (cond b (r ∷ q ∷ qs) (q ∷ with_ray qs r)) ≤ length (q ∷ qs) + 1)
+    [ true ↦ omega arith | false ↦ omega (arith, more) ]
 
 with_ray_if_length : (rays : List Ray) (o : Option Ray) → length (with_ray_if rays o) ≤ length rays + 1
 with_ray_if_length rays None = omega arith
 with_ray_if_length rays (Some r) = with_ray_length rays r
 
-fan_from_length : (v : Point) (pieces : List Piece) (rays : List Ray) → length (fan_from v pieces rays) ≤ length rays + length pieces
+fan_from_length : (v : Point) (pieces : List Piece) (rays : List Ray)
+    → length (fan_from v pieces rays) ≤ length rays + length pieces
 fan_from_length v [] rays = omega arith
-fan_from_length v (p ∷ ps) rays = omega (arith, fan_from_length v ps (with_ray_if rays (ray_at v p)), with_ray_if_length rays (ray_at v p))
+fan_from_length v (p ∷ ps) rays =
+    omega (arith, fan_from_length v ps (with_ray_if rays (ray_at v p)), with_ray_if_length rays (ray_at v p))
 
 pub fan_length : (v : Point) (pieces : List Piece) → length (fan_of v pieces) ≤ length pieces
 unfolding fan_of
@@ -57,35 +69,61 @@ fan_length v pieces = omega (arith, fan_from_length v pieces [])
 
 little_at_length : (fan : List Ray) (k : ℕ) → length (little_fault_at fan k) ≤ 1
 little_at_length fan k =
-    elim (is_small_sector fan k) as (λ b. length (cond b (BigLittleBig (ray_in fan k).dir ∷ []) []) ≤ 1) [ true ↦ omega arith | false ↦ omega arith ]
+    elim (is_small_sector fan k) as
+    (λ b. length (cond b (BigLittleBig (ray_in fan k).dir ∷ []) []) ≤ 1)
+    [ true ↦ omega arith | false ↦ omega arith ]
 
 little_length : (fan : List Ray) → length (little_faults fan) ≤ length fan
 little_length fan =
     let places = range_with_len 0 (length fan) in
     let sectors = flat_map_length (little_fault_at fan) 1 (little_at_length fan) places in
-    elim (nat_lt (length fan) 4) as (λ b. length (cond b [] (flat_map (little_fault_at fan) places)) ≤ length fan)
+    elim (nat_lt (length fan) 4) as
+    (λ b. length (cond b [] (flat_map (little_fault_at fan) places)) ≤ length fan)
     [ true ↦ omega arith | false ↦ omega (arith, sectors, length-range_with_len 0 (length fan)) ]
 
 kawasaki_length : (fan : List Ray) → length (kawasaki_faults fan) ≤ 1
-kawasaki_length fan = elim (comes_round fan) as (λ b. length (cond b [] (Kawasaki ∷ [])) ≤ 1) [ true ↦ omega arith | false ↦ omega arith ]
+kawasaki_length fan =
+    elim (comes_round fan) as (λ b. length (cond b [] (Kawasaki ∷ [])) ≤ 1)
+    [ true ↦ omega arith | false ↦ omega arith ]
 
 maekawa_length : (fan : List Ray) → length (maekawa_faults fan) ≤ 1
 maekawa_length fan =
     let mountains = count_of_kind Mountain fan in
     let valleys = count_of_kind Valley fan in
-    elim (differ_by_two mountains valleys) as (λ b. length (cond b [] (Maekawa mountains valleys ∷ [])) ≤ 1) [ true ↦ omega arith | false ↦ omega arith ]
+    elim (differ_by_two mountains valleys) as
+    (λ b. length (cond b [] (Maekawa mountains valleys ∷ [])) ≤ 1)
+    [ true ↦ omega arith | false ↦ omega arith ]
 
 fan_faults_length : (fan : List Ray) → length (fan_faults fan) ≤ length fan + 2
 fan_faults_length fan =
-    omega (arith, length-append (kawasaki_faults fan ++ maekawa_faults fan) (little_faults fan), length-append (kawasaki_faults fan) (maekawa_faults fan), kawasaki_length fan, maekawa_length fan, little_length fan)
+    omega (
+      arith,
+      length-append (kawasaki_faults fan ++ maekawa_faults fan) (little_faults fan),
+      length-append (kawasaki_faults fan) (maekawa_faults fan),
+      kawasaki_length fan,
+      maekawa_length fan,
+      little_length fan,
+    )
 
-faults_at_length : (pattern : PatternView) → length pattern.pieces ≤ 2000 → (v : Point) → length (faults_at pattern v) ≤ 2002
+faults_at_length : (pattern : PatternView) → length pattern.pieces ≤ 2000 → (v : Point)
+    → length (faults_at pattern v) ≤ 2002
 faults_at_length pattern few v =
-    omega (arith, few, length-map (fan_faults (fan_of v pattern.pieces)) (vertex_fault v), fan_faults_length (fan_of v pattern.pieces), fan_length v pattern.pieces)
+    omega (
+      arith,
+      few,
+      length-map (fan_faults (fan_of v pattern.pieces)) (vertex_fault v),
+      fan_faults_length (fan_of v pattern.pieces),
+      fan_length v pattern.pieces,
+    )
 
 pub few_faults : (pattern : PatternView) → IsPattern pattern → length (faults_of pattern) < 2 ^ 32
 unfolding faults_of
 few_faults pattern rules =
     let few : length pattern.pieces ≤ 2000 = omega (arith, rules.size) in
-    let few_vertices : length (vertices_of pattern) ≤ 4000 = omega (arith, few, vertices_from_length pattern.corners pattern.pieces []) in
-    omega (arith, few_vertices, flat_map_length (faults_at pattern) 2002 (faults_at_length pattern few) (vertices_of pattern))
+    let few_vertices : length (vertices_of pattern) ≤ 4000 = omega
+    (arith, few, vertices_from_length pattern.corners pattern.pieces []) in
+    omega (
+      arith,
+      few_vertices,
+      flat_map_length (faults_at pattern) 2002 (faults_at_length pattern few) (vertices_of pattern),
+    )

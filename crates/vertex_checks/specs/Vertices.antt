@@ -49,7 +49,8 @@ inner_point corners v = if is_inside (place_of corners (position_of v)) then v �
 
 -- the ends of the piece that are
 abbrev pub inner_ends : List Point → Piece → List Point
-inner_ends corners p = inner_point corners (lesser_end p.segment) ++ inner_point corners (greater_end p.segment)
+inner_ends corners p =
+    inner_point corners (lesser_end p.segment) ++ inner_point corners (greater_end p.segment)
 
 -- those of all pieces, as often as they are there
 abbrev pub inner_ends_of : PatternView → List Point

@@ -53,7 +53,8 @@ pub(crate) fn push_fault(
 }
 
 fn push_kawasaki(faults: &mut Vec<VertexFault>, v: &Point, fan: &[Ray]) -> Result<(), AllocError>
-    ensures { OnOk result (faults.new.items ≡ faults.old.items ++ vertex_faults v.now (kawasaki_faults fan.now)) }
+    ensures { OnOk result
+        (faults.new.items ≡ faults.old.items ++ vertex_faults v.now (kawasaki_faults fan.now)) }
 {
     if !comes_round(fan) {
         push_fault(faults, v, LocalFault::Kawasaki)?;
@@ -63,7 +64,8 @@ fn push_kawasaki(faults: &mut Vec<VertexFault>, v: &Point, fan: &[Ray]) -> Resul
 
 fn push_maekawa(faults: &mut Vec<VertexFault>, v: &Point, fan: &[Ray]) -> Result<(), AllocError>
     requires { length fan.now ≤ 2000 }
-    ensures { OnOk result (faults.new.items ≡ faults.old.items ++ vertex_faults v.now (maekawa_faults fan.now)) }
+    ensures { OnOk result
+        (faults.new.items ≡ faults.old.items ++ vertex_faults v.now (maekawa_faults fan.now)) }
 {
     let m = count_of_kind(Kind::Mountain, fan);
     let other = count_of_kind(Kind::Valley, fan);
@@ -90,7 +92,8 @@ pub(crate) fn push_vertex(
 ) -> Result<(), AllocError>
     requires few { length pieces.now ≤ 2000 }
     requires kept { (q : Point) → kept_fan fans.now q ≡ fan_of q pieces.now }
-    ensures { OnOk result (faults.new.items ≡ faults.old.items ++ vertex_faults v.now (fan_faults (fan_of v.now pieces.now))) }
+    ensures { OnOk result
+        (faults.new.items ≡ faults.old.items ++ vertex_faults v.now (fan_faults (fan_of v.now pieces.now))) }
 {
     push_fan(faults, v, fan_in(fans, v))
 }

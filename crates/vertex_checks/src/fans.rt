@@ -72,7 +72,9 @@ pub(crate) fn fan_in<'a>(fans: &'a Fans, v: &Point) -> &'a [Ray]
 }
 
 fn add_ray(alloc: Global, fans: &mut Fans, v: &Point, ray: Ray) -> Result<(), AllocError>
-    ensures { OnOk result ((q : Point) → kept_fan fans.new q ≡ (if equal_points v.now q then with_ray (kept_fan fans.old v.now) ray else kept_fan fans.old q)) }
+    ensures { OnOk result
+        ((q : Point) → kept_fan fans.new q
+        ≡ (if equal_points v.now q then with_ray (kept_fan fans.old v.now) ray else kept_fan fans.old q)) }
 {
     let mut fan = SmallVec::from_slice(alloc, fan_in(fans, v))?;
     let place = place_for(fan.as_slice(), &ray);
@@ -82,7 +84,8 @@ fn add_ray(alloc: Global, fans: &mut Fans, v: &Point, ray: Ray) -> Result<(), Al
 }
 
 fn add_piece(alloc: Global, fans: &mut Fans, piece: &Piece) -> Result<(), AllocError>
-    ensures { OnOk result ((q : Point) → kept_fan fans.new q ≡ with_ray_if (kept_fan fans.old q) (ray_at q piece.now)) }
+    ensures { OnOk result
+        ((q : Point) → kept_fan fans.new q ≡ with_ray_if (kept_fan fans.old q) (ray_at q piece.now)) }
 {
     let number = piece.segment.dir().number();
     add_ray(alloc, fans, piece.segment.from(), ray_to(piece, number))?;

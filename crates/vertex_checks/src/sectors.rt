@@ -54,7 +54,8 @@ fn push_little_fault(
 ) -> Result<(), AllocError>
     requires inside { k < length fan.now }
     requires few { length fan.now ≤ 2000 }
-    ensures { OnOk result (faults.new.items ≡ faults.old.items ++ vertex_faults v.now (little_fault_at fan.now k)) }
+    ensures { OnOk result
+        (faults.new.items ≡ faults.old.items ++ vertex_faults v.now (little_fault_at fan.now k)) }
 {
     if is_small_sector(fan, k) {
         let direction = fan[k].dir;
@@ -70,7 +71,8 @@ pub(crate) fn push_little_faults(
     fan: &[Ray],
 ) -> Result<(), AllocError>
     requires { length fan.now ≤ 2000 }
-    ensures { OnOk result (faults.new.items ≡ faults.old.items ++ vertex_faults v.now (little_faults fan.now)) }
+    ensures { OnOk result
+        (faults.new.items ≡ faults.old.items ++ vertex_faults v.now (little_faults fan.now)) }
 {
     if fan.len() < 4 {
         return Ok(());

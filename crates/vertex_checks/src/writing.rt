@@ -5,7 +5,7 @@ ghost use Rattle.cp_text.specs.Growth.{KeepsFront};
 ghost use Rattle.vertex_checks.specs.Text.{local_text, vertex_text, fault_text, faults_text};
 
 use crate::faults::{LocalFault, VertexFault};
-use cp_text::write_number;
+use cp_text::{all_or_nothing, write_number};
 use itoa::Buffer;
 use plane_geometry::Point;
 use std::alloc::AllocError;
@@ -72,8 +72,5 @@ pub fn write_faults(out: &mut Vec<u8>, faults: &[VertexFault]) -> Result<(), All
 {
     let before = out.len();
     let written = put_faults(out, faults);
-    if written.is_err() {
-        out.truncate(before);
-    }
-    written
+    all_or_nothing(out, before, written)
 }

@@ -10,6 +10,8 @@ returns c =
     let p = c.args.piece.now in
     let number = c.number-number.ensures ∙ c.dir.ensures.value in
     on_ok_weaker c.add_ray-2.result
-    (λ k. piece_rays p (kept_fan c.args.fans.now) (kept_fan c.add_ray.new.fans) (kept_fan c.add_ray-2.new.fans) c.from.result.now c.to.result.now c.ray_to.result c.ray_to-2.result
-    c.from.ensures.value c.to.ensures (c.ray_to.ensures ∙ ap (ray_of p) number) (c.ray_to-2.ensures ∙ ap (λ n. ray_of p (n + 8)) number) c.in_ok-add_ray.ensures k)
+    (λ k. piece_rays p (kept_fan c.args.fans.now) (kept_fan c.add_ray.new.fans)
+    (kept_fan c.add_ray-2.new.fans) c.from.result.now c.to.result.now c.ray_to.result c.ray_to-2.result
+    c.from.ensures.value c.to.ensures (c.ray_to.ensures ∙ ap (ray_of p) number)
+    (c.ray_to-2.ensures ∙ ap (λ n. ray_of p (n + 8)) number) c.in_ok-add_ray.ensures k)
     c.add_ray-2.ensures

@@ -6,5 +6,6 @@ use Rattle.vertex_checks.proofs.sectors.push_little_faults.Goals as goal
 pub loop-k-preserved : goal.loop-k-preserved
 loop-k-preserved c =
     let fan = c.args.fan.now in
-    one_more (vertex_fault c.args.v.now) (little_fault_at fan) c.loop-k.k (length fan) c.loop-k.faults.items c.push_little_fault.new.faults.items _
+    one_more (vertex_fault c.args.v.now) (little_fault_at fan) c.loop-k.k
+    (length fan) c.loop-k.faults.items c.push_little_fault.new.faults.items _
     c.loop-k-test.true c.in_ok-push_little_fault.ensures c.loop-k.invariant
