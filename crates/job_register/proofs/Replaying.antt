@@ -24,58 +24,71 @@ use Rattle.job_register.specs.Replay.{record_from, LegalRecordsAreReplayed, Firs
 replayed_from : (s : State) (es : List Event) → IsLegalFrom s es → es ≡ record_from s (commands_in es)
 replayed_from s [] legal = refl
 replayed_from s (Made command reply ∷ es) legal =
-    ap₂ (λ r (fs : List Event). Made command r ∷ fs) legal.0 (replayed_from (answer s command).state es legal.1)
+    ap₂ (λ r (fs : List Event). Made command r ∷ fs) legal.0
+    (replayed_from (answer s command).state es legal.1)
 
 pub legal_records_are_replayed : LegalRecordsAreReplayed
 legal_records_are_replayed es legal = replayed_from first_state es legal
 
 pub first_row : FirstRow
-unfolding first_state add_of direction_of cuts_of parts_of delete_of set_of merge_of is_loose next_piece merged_from sheet_of load_of
+unfolding first_state add_of direction_of cuts_of parts_of delete_of set_of merge_of is_loose next_piece
+    merged_from sheet_of load_of
 first_row = refl
 
 pub redo_row : RedoRow
-unfolding first_state add_of direction_of cuts_of parts_of delete_of set_of merge_of is_loose next_piece merged_from sheet_of load_of
+unfolding first_state add_of direction_of cuts_of parts_of delete_of set_of merge_of is_loose next_piece
+    merged_from sheet_of load_of
 redo_row = refl
 
 pub refusal_row : RefusalRow
-unfolding first_state add_of direction_of cuts_of parts_of delete_of set_of merge_of is_loose next_piece merged_from sheet_of load_of
+unfolding first_state add_of direction_of cuts_of parts_of delete_of set_of merge_of is_loose next_piece
+    merged_from sheet_of load_of
 refusal_row = refl
 
 pub merging_row : MergingRow
-unfolding first_state add_of direction_of cuts_of parts_of delete_of set_of merge_of is_loose next_piece merged_from sheet_of load_of
+unfolding first_state add_of direction_of cuts_of parts_of delete_of set_of merge_of is_loose next_piece
+    merged_from sheet_of load_of
 merging_row = refl
 
 pub sheet_row : SheetRow
-unfolding first_state add_of direction_of cuts_of parts_of delete_of set_of merge_of is_loose next_piece merged_from sheet_of load_of
+unfolding first_state add_of direction_of cuts_of parts_of delete_of set_of merge_of is_loose next_piece
+    merged_from sheet_of load_of
 sheet_row = refl
 
 pub load_row : LoadRow
-unfolding first_state add_of direction_of cuts_of parts_of delete_of set_of merge_of is_loose next_piece merged_from sheet_of load_of
+unfolding first_state add_of direction_of cuts_of parts_of delete_of set_of merge_of is_loose next_piece
+    merged_from sheet_of load_of
 load_row = refl
 
 pub delete_row : DeleteRow
-unfolding first_state add_of direction_of cuts_of parts_of delete_of set_of merge_of is_loose next_piece merged_from sheet_of load_of
+unfolding first_state add_of direction_of cuts_of parts_of delete_of set_of merge_of is_loose next_piece
+    merged_from sheet_of load_of
 delete_row = refl
 
 pub bad_row : BadRow
-unfolding first_state add_of direction_of cuts_of parts_of delete_of set_of merge_of is_loose next_piece merged_from sheet_of load_of
+unfolding first_state add_of direction_of cuts_of parts_of delete_of set_of merge_of is_loose next_piece
+    merged_from sheet_of load_of
 bad_row = refl
 
 pub full_row : FullRow
 full_row s =
     elim (cases_eq (length s.journal.versions - 1) greatest_version) [
       | inl last ↦
-          let test : nat_eq (length s.journal.versions - 1) greatest_version ≡ true = grind (arith, nat_tests) in
+          let test : nat_eq (length s.journal.versions - 1) greatest_version ≡ true = grind (arith, nat_tests)
+          in
           rw test ((λ e. last), (λ e. refl))
       | inr room ↦
-          let test : nat_eq (length s.journal.versions - 1) greatest_version ≡ false = grind (arith, nat_tests) in
+          let test : nat_eq (length s.journal.versions - 1) greatest_version
+          ≡ false = grind (arith, nat_tests) in
           rw test ((λ e. cc), (λ e. absurd (room e)))
     ]
 
 pub rising_row : RisingRow
-unfolding first_state add_of direction_of cuts_of parts_of delete_of set_of merge_of is_loose next_piece merged_from sheet_of load_of
+unfolding first_state add_of direction_of cuts_of parts_of delete_of set_of merge_of is_loose next_piece
+    merged_from sheet_of load_of
 rising_row = refl
 
 pub rising_text : RisingText
-unfolding first_state add_of direction_of cuts_of parts_of delete_of set_of merge_of is_loose next_piece merged_from sheet_of load_of number_text magnitude_text line_text digits
+unfolding first_state add_of direction_of cuts_of parts_of delete_of set_of merge_of is_loose next_piece
+    merged_from sheet_of load_of number_text magnitude_text line_text digits
 rising_text = refl

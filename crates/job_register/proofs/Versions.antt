@@ -37,21 +37,25 @@ stays : (j : JournalView) → IsMove j j
 stays j = record { sound = λ h. h; keeps = λ v p e. e }
 
 both_steps : (i j k : JournalView) → IsMove i j → IsMove j k → IsMove i k
-both_steps i j k h h' = record { sound = λ sound. h'.sound (h.sound sound); keeps = λ v p e. h'.keeps v p (h.keeps v p e) }
+both_steps i j k h h' =
+    record { sound = λ sound. h'.sound (h.sound sound); keeps = λ v p e. h'.keeps v p (h.keeps v p e) }
 
 -- the answer is a commit of some pattern, or a refusal that changes nothing
 data IsCommit (s : State) : Answer → Type 0 where
-  commits : (a : Answer) (p : PatternView) → a.state.journal ≡ committed s.journal p → (IsJournal s.journal → IsJournal (committed s.journal p)) → IsCommit s a
+  commits : (a : Answer) (p : PatternView) → a.state.journal ≡ committed s.journal p
+      → (IsJournal s.journal → IsJournal (committed s.journal p)) → IsCommit s a
   refuses : (a : Answer) → a.state.journal ≡ s.journal → is_refusal a.reply ≡ true → IsCommit s a
 
 version_commits : (s : State) (p : PatternView) → IsCommit s (committed_answer s p)
 version_commits s p =
     elim (cases_eq (length s.journal.versions - 1) greatest_version) [
       | inl last ↦
-          let test : nat_eq (length s.journal.versions - 1) greatest_version ≡ true = grind (arith, nat_tests) in
+          let test : nat_eq (length s.journal.versions - 1) greatest_version ≡ true = grind (arith, nat_tests)
+          in
           rw test (refuses _ refl refl)
       | inr room ↦
-          let test : nat_eq (length s.journal.versions - 1) greatest_version ≡ false = grind (arith, nat_tests) in
+          let test : nat_eq (length s.journal.versions - 1) greatest_version
+          ≡ false = grind (arith, nat_tests) in
           rw test (commits _ p refl (λ h. IsJournal-committed s.journal p h (omega (arith, h.most))))
     ]
 
@@ -68,7 +72,8 @@ stop_commits s stop.Ended p = version_commits s p
 stop_commits s (stop.Bad number fault) p = refuses _ refl refl
 stop_commits s stop.Unended p = refuses _ refl refl
 
-load_commits : (s : State) (end : LoadStop) (r : Result PatternView LoadRefusal) → IsCommit s (load_answer s end r)
+load_commits : (s : State) (end : LoadStop) (r : Result PatternView LoadRefusal)
+    → IsCommit s (load_answer s end r)
 load_commits s end (Ok p) = stop_commits s end p
 load_commits s end (Err fault) = refuses _ refl refl
 
@@ -87,7 +92,8 @@ changes s Check h = cc
 changes s (Bad fault) h = cc
 
 commit_step : (s : State) (a : Answer) → IsCommit s a → IsMove s.journal a.state.journal
-commit_step s a (commits a' p e sound) = subst (IsMove s.journal) (sym e) (record { sound = sound; keeps = committed_keeps s.journal p })
+commit_step s a (commits a' p e sound) =
+    subst (IsMove s.journal) (sym e) (record { sound = sound; keeps = committed_keeps s.journal p })
 commit_step s a (refuses a' e h) = subst (IsMove s.journal) (sym e) (stays s.journal)
 
 undo_step : (s : State) → IsMove s.journal (answer s Undo).state.journal
@@ -101,9 +107,11 @@ undo_step s =
           rw test (record { sound = λ h. IsJournal-undone s.journal h (omega arith); keeps = λ v p e. e })
     ]
 
-redo_step : (s : State) (o : Option JournalView) → redone s.journal ≡ o → IsMove s.journal (redone_answer s o).state.journal
+redo_step : (s : State) (o : Option JournalView) → redone s.journal ≡ o
+    → IsMove s.journal (redone_answer s o).state.journal
 redo_step s None e = stays s.journal
-redo_step s (Some j) e = record { sound = λ h. IsJournal-redone s.journal j h e; keeps = redone_keeps s.journal j e }
+redo_step s (Some j) e =
+    record { sound = λ h. IsJournal-redone s.journal j h e; keeps = redone_keeps s.journal j e }
 
 step_of : (s : State) (command : Command) → IsMove s.journal (answer s command).state.journal
 step_of s (Add kind from to) = commit_step s (answer s (Add kind from to)) (changes s (Add kind from to) refl)
@@ -136,18 +144,21 @@ sound_after es = (steps_of first_state es).sound first_sound
 
 pub versions_stay : VersionsStay
 versions_stay es later version p e =
-    ap (λ (s : State). pattern_at s.journal version) (state_from-append first_state es later) ∙ (steps_of (state_after es) later).keeps version p e
+    ap (λ (s : State). pattern_at s.journal version) (state_from-append first_state es later)
+    ∙ (steps_of (state_after es) later).keeps version p e
 
 legal_rest : (s : State) (es fs : List Event) → IsLegalFrom s (es ++ fs) → IsLegalFrom (state_from s es) fs
 legal_rest s [] fs h = h
 legal_rest s (Made command reply ∷ es) fs h = legal_rest (answer s command).state es fs h.1
 
-committed_back : (s : State) (a : Answer) → IsJournal s.journal → IsCommit s a → is_refusal a.reply ≡ false → current_pattern (answer a.state Undo).state.journal ≡ current_pattern s.journal
+committed_back : (s : State) (a : Answer) → IsJournal s.journal → IsCommit s a → is_refusal a.reply ≡ false
+    → current_pattern (answer a.state Undo).state.journal ≡ current_pattern s.journal
 committed_back s a sound (refuses a' e h) accepted = cc
 committed_back s a sound (commits a' p e kept) accepted =
     let below : s.journal.current < length s.journal.versions = omega (arith, sound.current) in
     let later : nat_eq (length s.journal.versions) 0 ≡ false = grind (arith, nat_tests) in
-    let back : (answer (record { journal = committed s.journal p }) Undo).state.journal ≡ undone (committed s.journal p) = rw later refl in
+    let back : (answer (record { journal = committed s.journal p }) Undo).state.journal
+    ≡ undone (committed s.journal p) = rw later refl in
     ap (λ (j : JournalView). current_pattern (answer (record { journal = j }) Undo).state.journal) e
     ∙ ap current_pattern back
     ∙ committed_taken_back s.journal p below
@@ -157,10 +168,12 @@ undo_brings_back es command reply other legal change accepted =
     let s = state_after es in
     let rest = legal_rest first_state es (Made command reply ∷ Made Undo other ∷ []) legal in
     let told : is_refusal (answer s command).reply ≡ false = ap is_refusal (sym rest.0) ∙ accepted in
-    ap (λ (s : State). current_pattern s.journal) (state_from-append first_state es (Made command reply ∷ Made Undo other ∷ []))
+    ap (λ (s : State). current_pattern s.journal)
+    (state_from-append first_state es (Made command reply ∷ Made Undo other ∷ []))
     ∙ committed_back s (answer s command) (sound_after es) (changes s command change) told
 
-undone_again : (s : State) → is_refusal (answer s Undo).reply ≡ false → (answer (answer s Undo).state Redo).state ≡ s
+undone_again : (s : State) → is_refusal (answer s Undo).reply ≡ false
+    → (answer (answer s Undo).state Redo).state ≡ s
 undone_again s accepted =
     elim (cases_eq s.journal.current 0) [
       | inl first ↦
@@ -175,4 +188,5 @@ pub redo_goes_back : RedoGoesBack
 redo_goes_back es reply other legal accepted =
     let s = state_after es in
     let rest = legal_rest first_state es (Made Undo reply ∷ Made Redo other ∷ []) legal in
-    state_from-append first_state es (Made Undo reply ∷ Made Redo other ∷ []) ∙ undone_again s (ap is_refusal (sym rest.0) ∙ accepted)
+    state_from-append first_state es (Made Undo reply ∷ Made Redo other ∷ [])
+    ∙ undone_again s (ap is_refusal (sym rest.0) ∙ accepted)

@@ -28,7 +28,8 @@ state_after es = state_from first_state es
 -- each command has the reply of the machine in the state that the events before it lead to
 abbrev pub IsLegalFrom : State → List Event → Type 0
 IsLegalFrom s [] = ⊤
-IsLegalFrom s (Made command reply ∷ es) = (reply ≡ (answer s command).reply) × IsLegalFrom (answer s command).state es
+IsLegalFrom s (Made command reply ∷ es) =
+    (reply ≡ (answer s command).reply) × IsLegalFrom (answer s command).state es
 
 abbrev pub IsLegal : List Event → Type 0
 IsLegal es = IsLegalFrom first_state es

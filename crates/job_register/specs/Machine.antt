@@ -46,11 +46,16 @@ refusal_answer s r = record { reply = Refused r; state = s }
 
 -- the journal has changed, and its current version is told
 abbrev pub version_answer : JournalView → Answer
-version_answer j = record { reply = Version j.current (size_of (current_pattern_of j)); state = record { journal = j } }
+version_answer j = record {
+  reply = Version j.current (size_of (current_pattern_of j));
+  state = record { journal = j };
+}
 
 -- the pattern becomes a version, unless the last number is taken
 abbrev pub committed_answer : State → PatternView → Answer
-committed_answer s pattern = if nat_eq (greatest_of s.journal) greatest_version then refusal_answer s refusal.Full else version_answer (committed s.journal pattern)
+committed_answer s pattern =
+    if nat_eq (greatest_of s.journal) greatest_version then refusal_answer s refusal.Full
+    else version_answer (committed s.journal pattern)
 
 abbrev pub change_answer : State → Result PatternView StoreRefusal → Answer
 change_answer s (Ok pattern) = committed_answer s pattern
@@ -70,7 +75,8 @@ stop_answer s stop.Unended pattern = refusal_answer s refusal.LoadUnended
 -- a block is refused by its first line that is not added, else by how it ends
 abbrev pub load_answer : State → LoadStop → Result PatternView LoadRefusal → Answer
 load_answer s end (Ok pattern) = stop_answer s end pattern
-load_answer s end (Err refused_line) = refusal_answer s (refusal.LoadLine refused_line.number (cause.Add refused_line.refusal))
+load_answer s end (Err refused_line) =
+    refusal_answer s (refusal.LoadLine refused_line.number (cause.Add refused_line.refusal))
 
 abbrev pub redone_answer : State → Option JournalView → Answer
 redone_answer s None = refusal_answer s refusal.NothingToRedo
@@ -84,8 +90,11 @@ answer s Merge = committed_answer s (merge_of (current_pattern_of s.journal))
 answer s Clear = committed_answer s (clear_of (current_pattern_of s.journal))
 answer s (Sheet corners) = sheet_answer s (sheet_of corners)
 answer s (Load lines end) = load_answer s end (load_of (current_pattern_of s.journal) lines)
-answer s Undo = if nat_eq s.journal.current 0 then refusal_answer s refusal.NothingToUndo else version_answer (undone s.journal)
+answer s Undo = if nat_eq s.journal.current 0 then refusal_answer s refusal.NothingToUndo
+    else version_answer (undone s.journal)
 answer s Redo = redone_answer s (redone s.journal)
-answer s ListCommand = record { reply = Listed s.journal.current (size_of (current_pattern_of s.journal)); state = s }
-answer s Check = record { reply = Checked s.journal.current (length (faults_of (current_pattern_of s.journal))); state = s }
+answer s ListCommand =
+    record { reply = Listed s.journal.current (size_of (current_pattern_of s.journal)); state = s }
+answer s Check = record
+    { reply = Checked s.journal.current (length (faults_of (current_pattern_of s.journal))); state = s }
 answer s (Bad fault) = refusal_answer s (line_refusal fault)

@@ -19,7 +19,8 @@ pattern_after es = current_pattern (state_after es).journal
 
 -- each version of the one record has the same pattern in the other
 abbrev pub KeepsVersions : List Event → List Event → Type 0
-KeepsVersions old new = (version : ℕ) (p : PatternView) → version_in old version ≡ Some p → version_in new version ≡ Some p
+KeepsVersions old new =
+    (version : ℕ) (p : PatternView) → version_in old version ≡ Some p → version_in new version ≡ Some p
 
 -- the command asks for another pattern, and not for one that was there, nor for an answer alone
 abbrev pub is_change : Command → Bool
@@ -38,7 +39,8 @@ VersionsStay = (es later : List Event) → KeepsVersions es (es ++ later)
 abbrev pub UndoBringsBack : Type 0
 UndoBringsBack =
     (es : List Event) (command : Command) (reply other : Reply)
-    → IsLegal (es ++ Made command reply ∷ Made Undo other ∷ []) → IsTrue (is_change command) → is_refusal reply ≡ false
+    → IsLegal (es ++ Made command reply ∷ Made Undo other ∷ []) → IsTrue (is_change command)
+    → is_refusal reply ≡ false
     → pattern_after (es ++ Made command reply ∷ Made Undo other ∷ []) ≡ pattern_after es
 
 -- after an undo and a redo all is as before

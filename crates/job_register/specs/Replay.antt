@@ -26,7 +26,8 @@ use Rattle.job_register.specs.Text.{text_of}
 
 abbrev pub record_from : State → List Command → List Event
 record_from s [] = []
-record_from s (command ∷ commands) = Made command (answer s command).reply ∷ record_from (answer s command).state commands
+record_from s (command ∷ commands) =
+    Made command (answer s command).reply ∷ record_from (answer s command).state commands
 
 abbrev pub record_of : List Command → List Event
 record_of commands = record_from first_state commands
@@ -50,7 +51,8 @@ replies_to commands = map reply_in (record_of commands)
 
 -- undo goes back, redo comes again, and the list is of the current version
 abbrev pub FirstRow : Type 0
-FirstRow = replies_to (mountain ∷ Undo ∷ Redo ∷ ListCommand ∷ []) ≡ Version 1 1 ∷ Version 0 0 ∷ Version 1 1 ∷ Listed 1 1 ∷ []
+FirstRow = replies_to (mountain ∷ Undo ∷ Redo ∷ ListCommand ∷ [])
+    ≡ Version 1 1 ∷ Version 0 0 ∷ Version 1 1 ∷ Listed 1 1 ∷ []
 
 -- a change after an undo empties the redo list
 abbrev pub RedoRow : Type 0
@@ -67,7 +69,8 @@ RefusalRow =
     ∷ Add Valley (whole_point (pos 0) (pos 0)) (whole_point (pos 300) (pos 0))
     ∷ Add Valley (whole_point (negsuc 199) (negsuc 199)) (whole_point (pos 200) (negsuc 199))
     ∷ Delete (whole_point (pos 0) (pos 0)) (whole_point (pos 1) (pos 0)) ∷ [])
-    ≡ Refused refusal.ZeroLength ∷ Refused refusal.BadDirection ∷ Refused refusal.EdgeOffBorder ∷ Refused refusal.OutsideSheet ∷ Refused refusal.OnBorder ∷ Refused refusal.NoSuchPiece ∷ []
+    ≡ Refused refusal.ZeroLength ∷ Refused refusal.BadDirection ∷ Refused refusal.EdgeOffBorder ∷ Refused
+    refusal.OutsideSheet ∷ Refused refusal.OnBorder ∷ Refused refusal.NoSuchPiece ∷ []
 
 -- the newest kind wins where a crease lies on another; set and merge make one piece of it again
 abbrev pub MergingRow : Type 0
@@ -81,7 +84,8 @@ MergingRow =
 -- a new sheet, its corners counterclockwise, and what is refused
 abbrev pub SheetRow : Type 0
 SheetRow =
-    replies_to (Sheet (whole_point (pos 0) (pos 0) ∷ whole_point (pos 0) (pos 100) ∷ whole_point (pos 100) (pos 0) ∷ [])
+    replies_to (Sheet (whole_point (pos 0) (pos 0) ∷ whole_point (pos 0) (pos 100) ∷ whole_point (pos 100)
+    (pos 0) ∷ [])
     ∷ Sheet (whole_point (pos 0) (pos 0) ∷ whole_point (pos 100) (pos 0) ∷ whole_point (pos 0) (pos 100) ∷ [])
     ∷ Add Mountain (whole_point (pos 0) (pos 0)) (whole_point (pos 50) (pos 50)) ∷ [])
     ≡ Refused (refusal.BadSheet 1) ∷ Version 1 0 ∷ Version 2 1 ∷ []
@@ -92,7 +96,8 @@ line_of number from to = record { number = number; kind = Mountain; from = from;
 -- a block is one version, or none
 abbrev pub LoadRow : Type 0
 LoadRow =
-    replies_to (Load (line_of 1 (whole_point (pos 0) (negsuc 199)) (whole_point (pos 0) (pos 200)) ∷ line_of 2 (whole_point (pos 0) (pos 0)) (whole_point (pos 100) (pos 50)) ∷ []) Ended
+    replies_to (Load (line_of 1 (whole_point (pos 0) (negsuc 199)) (whole_point (pos 0) (pos 200)) ∷ line_of 2
+    (whole_point (pos 0) (pos 0)) (whole_point (pos 100) (pos 50)) ∷ []) Ended
     ∷ Load (line_of 1 (whole_point (pos 0) (negsuc 199)) (whole_point (pos 0) (pos 200)) ∷ []) Unended
     ∷ Load (line_of 1 (whole_point (pos 0) (negsuc 199)) (whole_point (pos 0) (pos 200)) ∷ []) Ended ∷ [])
     ≡ Refused (refusal.LoadLine 2 (cause.Add BadDirection)) ∷ Refused refusal.LoadUnended ∷ Version 1 1 ∷ []
@@ -113,7 +118,8 @@ BadRow =
 
 -- a change that is not refused otherwise is refused exactly where the last version number is taken, in any state
 abbrev pub FullRow : Type 0
-FullRow = (s : State) → ((answer s Clear).reply ≡ Refused refusal.Full) ↔ (greatest_of s.journal ≡ greatest_version)
+FullRow = (s : State)
+    → ((answer s Clear).reply ≡ Refused refusal.Full) ↔ (greatest_of s.journal ≡ greatest_version)
 
 pub root_height_is_stored : IsStored (record { a = negsuc 599; b = pos 400; k = 0 })
 root_height_is_stored = (λ y _. omega arith, (omega arith, omega arith, omega arith))
@@ -124,7 +130,8 @@ root_height = record { a = negsuc 599; b = pos 400; k = 0; stored = root_height_
 
 -- the mountain from the least corner at 22.5 degrees
 abbrev pub rising : Command
-rising = Add Mountain (whole_point (negsuc 199) (negsuc 199)) (record { x = whole_surd (pos 200); y = root_height })
+rising = Add Mountain (whole_point (negsuc 199) (negsuc 199))
+    (record { x = whole_surd (pos 200); y = root_height })
 
 -- its replies, and the whole text of the record
 abbrev pub RisingRow : Type 0

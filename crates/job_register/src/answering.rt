@@ -1,6 +1,6 @@
 //! The answer to one command.
 
-ghost use Rattle.std.specs.Prelude.{◌≡◌, IfOk, OnErr, IsTrue};
+ghost use Rattle.std.specs.Prelude.{◌≡◌, IfOk, OnOk, OnErr, IsTrue};
 ghost use Rattle.std.specs.declared.result.Result.{Result};
 ghost use Rattle.crease_model.specs.View.{PatternView};
 ghost use Rattle.crease_store.specs.declared.faults.StoreRefusal.{StoreRefusal};
@@ -9,6 +9,7 @@ ghost use Rattle.crease_model.specs.Rules.{size_of};
 ghost use Rattle.crease_store.specs.Answer.{IsAnswer};
 ghost use Rattle.crease_store.specs.Loading.{load_of};
 ghost use Rattle.script_lang.specs.Script.{meets_condition};
+ghost use Rattle.job_register.specs.Kept.{AreCurrent};
 ghost use Rattle.job_register.specs.Machine.{answer, change_answer, version_answer, current_pattern_of, committed_answer, sheet_answer, load_answer, stop_answer};
 
 use crease_model::{Pattern, Sheet, SheetFault};
@@ -19,7 +20,7 @@ use script_lang::{
 };
 use std::alloc::{AllocError, Global};
 use undo_journal::{Journal, JournalFault};
-use vertex_checks::check;
+use vertex_checks::{VertexFault, check};
 
 /// The current version and the size of its pattern.
 fn current_version(journal: &Journal) -> (u32, u32)
@@ -57,7 +58,8 @@ fn commit_change(
     change: Result<Pattern, StoreFault>,
 ) -> Result<Reply, AllocError>
     ensures ok { IfOk result (λ reply. (defined : Result PatternView StoreRefusal) → IsAnswer change defined
-        → record { reply = reply; state = record { journal = journal.new } } ≡ change_answer (record { journal = journal.old }) defined) }
+        → record { reply = reply; state = record { journal = journal.new } }
+        ≡ change_answer (record { journal = journal.old }) defined) }
     ensures err { OnErr result (journal.new ≡ journal.old) }
 {
     match change {
@@ -113,7 +115,8 @@ fn load_block(
     end: LoadStop,
 ) -> Result<Reply, AllocError>
     ensures ok { IfOk result (λ reply. record { reply = reply; state = record { journal = journal.new } }
-        ≡ load_answer (record { journal = journal.old }) end (load_of (current_pattern_of journal.old) lines.now)) }
+        ≡ load_answer (record { journal = journal.old }) end
+        (load_of (current_pattern_of journal.old) lines.now)) }
     ensures err { OnErr result (journal.new ≡ journal.old) }
 {
     match load(alloc, journal.current_pattern(), lines.as_slice()) {
@@ -154,14 +157,23 @@ fn redo(journal: &mut Journal) -> Reply
     }
 }
 
-fn count_faults(alloc: Global, journal: &Journal) -> Result<Reply, AllocError>
-    ensures { IfOk result (λ reply. record { reply = reply; state = record { journal = journal.now } }
+// Counts the faults of the current version, and keeps them for the text of the reply.
+fn count_faults(
+    alloc: Global,
+    journal: &Journal,
+    faults: &mut Option<Vec<VertexFault>>,
+) -> Result<Reply, AllocError>
+    ensures ok { IfOk result (λ reply. record { reply = reply; state = record { journal = journal.now } }
         ≡ answer (record { journal = journal.now }) Command.Check) }
+    ensures current { OnOk result (AreCurrent faults.new journal.now) }
+    ensures err { OnErr result (faults.new ≡ faults.old) }
 {
-    let faults = check(alloc, journal.current_pattern())?;
+    let found = check(alloc, journal.current_pattern())?;
+    let count = found.as_slice().len() as u32;
+    *faults = Some(found);
     Ok(Reply::Checked {
         version: journal.current(),
-        faults: faults.as_slice().len() as u32,
+        faults: count,
     })
 }
 
@@ -173,17 +185,21 @@ fn list(journal: &Journal) -> Reply
     Reply::Listed { version, pieces }
 }
 
-/// Answers a command. Without memory the journal stays as it was.
+/// Answers a command. Without memory the journal stays as it was. `faults` are those of the current version where
+/// the command asks for them, else none.
 pub fn answer_command(
     alloc: Global,
     journal: &mut Journal,
+    faults: &mut Option<Vec<VertexFault>>,
     command: &Command,
 ) -> Result<Reply, AllocError>
     requires { IsTrue (meets_condition command.now) }
+    ensures current { AreCurrent faults.new journal.new }
     ensures ok { IfOk result (λ reply. record { reply = reply; state = record { journal = journal.new } }
         ≡ answer (record { journal = journal.old }) command.now) }
     ensures err { OnErr result (journal.new ≡ journal.old) }
 {
+    *faults = None;
     let pattern = journal.current_pattern();
     match command {
         Command::Add { kind, from, to } => {
@@ -211,7 +227,7 @@ pub fn answer_command(
         Command::Undo => Ok(undo(journal)),
         Command::Redo => Ok(redo(journal)),
         Command::List => Ok(list(journal)),
-        Command::Check => count_faults(alloc, journal),
+        Command::Check => count_faults(alloc, journal, faults),
         Command::Bad { fault } => Ok(Reply::Refused {
             refusal: refusal_of_line(*fault),
         }),

@@ -11,7 +11,7 @@ use script_lang::{Command, Reply, write_head};
 use std::alloc::{AllocError, Global};
 use std::marker::Model;
 use undo_journal::Journal;
-use vertex_checks::{check, write_faults};
+use vertex_checks::{VertexFault, check, write_faults};
 
 /// What happened in a session.
 #[derive(Drop)]
@@ -61,6 +61,8 @@ pub struct Session {
     journal: Journal,
     record: Record,
     refused: bool,
+    // of the current version, after a command that asked for them
+    faults: Option<Vec<VertexFault>>,
 }
 
 impl Model for Session {
@@ -72,11 +74,11 @@ impl Model for Session {
     ghost use Rattle.job_register.specs.View.{events_of};
     ghost use Rattle.job_register.specs.Machine.{State};
     ghost use Rattle.job_register.specs.Legal.{IsLegal, state_after};
-    ghost use Rattle.job_register.specs.Kept.{Keeps};
+    ghost use Rattle.job_register.specs.Kept.{IsSession};
 
     ghost view = { λ s. events_of s.record };
 
-    ghost invariant = { λ s. Keeps s.journal s.refused (events_of s.record) };
+    ghost invariant = { λ s. IsSession s.journal s.refused s.faults (events_of s.record) };
 }
 
 impl Session {
@@ -97,6 +99,7 @@ impl Session {
             journal,
             record: Record::new(alloc),
             refused: false,
+            faults: None,
         })
     }
 
@@ -107,14 +110,16 @@ impl Session {
         ensures reply { IfOk result (λ reply. reply ≡ (answer (state_after self.old) command).reply) }
         ensures events { IfOk result (λ reply. self.new ≡ self.old ++ Event.Made command reply ∷ []) }
         ensures legal { IsLegal self.new }
-        ensures text { IfOk result (λ reply. text_of self.new ≡ text_of self.old ++ reply_text (state_after self.new) reply) }
+        ensures text { IfOk result
+            (λ reply. text_of self.new ≡ text_of self.old ++ reply_text (state_after self.new) reply) }
         ensures commands { OnOk result (commands_in self.new ≡ commands_in self.old ++ command ∷ []) }
-        ensures refusals { IfOk result (λ reply. has_refusal self.new ≡ (has_refusal self.old || is_refusal reply)) }
+        ensures refusals { IfOk result
+            (λ reply. has_refusal self.new ≡ (has_refusal self.old || is_refusal reply)) }
         ensures versions { KeepsVersions self.old self.new }
         ensures err { OnErr result (self.new ≡ self.old) }
     {
         self.record.list.reserve(1)?;
-        let reply = answer_command(alloc, &mut self.journal, &command)?;
+        let reply = answer_command(alloc, &mut self.journal, &mut self.faults, &command)?;
         self.record
             .list
             .push(Event::Made { command, reply })
@@ -126,7 +131,8 @@ impl Session {
     /// Appends the whole text of a reply: its first line, for a listing the lines of the listed version, and for local
     /// checks a line for each fault. Without memory the bytes stay as they were.
     pub fn write_text(&self, out: &mut Vec<u8>, reply: &Reply) -> Result<(), AllocError>
-        ensures ok { OnOk result (out.new.items ≡ out.old.items ++ reply_text (state_after self.now) reply.now) }
+        ensures ok { OnOk result
+            (out.new.items ≡ out.old.items ++ reply_text (state_after self.now) reply.now) }
         ensures err { OnErr result (out.new.items ≡ out.old.items) }
     {
         let before = out.len();
@@ -136,7 +142,8 @@ impl Session {
     }
 
     fn write_body(&self, out: &mut Vec<u8>, reply: &Reply) -> Result<(), AllocError>
-        ensures ok { OnOk result (out.new.items ≡ out.old.items ++ body_text (state_after self.now) reply.now) }
+        ensures ok { OnOk result
+            (out.new.items ≡ out.old.items ++ body_text (state_after self.now) reply.now) }
         ensures err { OnErr result (out.new.items ≡ out.old.items) }
     {
         match *reply {
@@ -147,7 +154,9 @@ impl Session {
     }
 
     fn write_listing(&self, out: &mut Vec<u8>, version: u32) -> Result<(), AllocError>
-        ensures ok { OnOk result (out.new.items ≡ out.old.items ++ listing_text (pattern_at (state_after self.now).journal version)) }
+        ensures ok { OnOk result
+            (out.new.items ≡ out.old.items
+            ++ listing_text (pattern_at (state_after self.now).journal version)) }
         ensures err { OnErr result (out.new.items ≡ out.old.items) }
     {
         match self.journal.get(version) {
@@ -157,15 +166,20 @@ impl Session {
     }
 
     fn write_checks(&self, out: &mut Vec<u8>, version: u32) -> Result<(), AllocError>
-        ensures ok { OnOk result (out.new.items ≡ out.old.items ++ checks_text (pattern_at (state_after self.now).journal version)) }
+        ensures ok { OnOk result
+            (out.new.items ≡ out.old.items
+            ++ checks_text (pattern_at (state_after self.now).journal version)) }
         ensures err { OnErr result (out.new.items ≡ out.old.items) }
     {
-        match self.journal.get(version) {
-            Some(pattern) => {
+        match (&self.faults, self.journal.get(version)) {
+            (_, None) => Ok(()),
+            (Some(faults), Some(_)) if version == self.journal.current() => {
+                write_faults(out, faults.as_slice())
+            }
+            (_, Some(pattern)) => {
                 let faults = check(*out.allocator(), pattern)?;
                 write_faults(out, faults.as_slice())
             }
-            None => Ok(()),
         }
     }
 
