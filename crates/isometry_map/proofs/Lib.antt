@@ -1,1 +1,3 @@
-pub mod Tables
+pub mod Widths
+pub mod Images
+pub mod Mirrors

@@ -1,8 +1,13 @@
--- What the numbers of linear parts stand for.
-use Rattle.std.specs.Prelude.{◌≡◌, ℕ, ◌<◌, pos, negsuc, if◌then◌else◌}
+-- What the numbers of linear parts stand for, and what isometries keep.
+use Rattle.std.specs.Prelude.{◌≡◌, ◌↔◌, ℕ, ◌<◌, pos, negsuc, if◌then◌else◌}
 use Rattle.surd_number.specs.Number.{IsSame, whole}
-use Rattle.isometry_map.specs.Linear.{reflection, is_reflection, composed}
+use Rattle.plane_geometry.specs.Position.{Position}
+use Rattle.plane_geometry.specs.Direction.{side_of, is_along}
+use Rattle.isometry_map.specs.declared.isometries.Isometry.{Isometry}
+use Rattle.isometry_map.specs.Linear.{reflection, is_reflection, composed, direction_image, side_image}
 use Rattle.isometry_map.specs.Matrix.{matrix_of, matrix_product, determinant, IsSameMatrix, IsMirrorOf}
+use Rattle.isometry_map.specs.Motion.{Motion, image_by, IsSameMap}
+use Rattle.isometry_map.specs.IsometryView.{motion_of}
 
 -- the matrix of a composition is the product of the matrices
 abbrev pub CompositionIsProduct : Type 0
@@ -25,3 +30,21 @@ TurnedReverse =
     (n : ℕ)
     → n < 16
     → IsSame (determinant (matrix_of n)) (if is_reflection n then whole (negsuc 0) else whole (pos 1))
+
+-- where it goes in direction n from p to q, it goes in the image of n from the image of p to that of q
+abbrev pub DirectionsGoToDirections : Type 0
+DirectionsGoToDirections =
+    (t : Motion) (n : ℕ) (p q : Position)
+    → t.linear < 16 → n < 16
+    → is_along (direction_image t.linear n) (image_by t p) (image_by t q) ≡ is_along n p q
+
+-- sides of the line through q in direction n are kept, or are all turned where orientation is reversed
+abbrev pub SidesAreKept : Type 0
+SidesAreKept =
+    (t : Motion) (n : ℕ) (q p : Position)
+    → t.linear < 16 → n < 16
+    → side_of (image_by t q) (direction_image t.linear n) (image_by t p) ≡ side_image t.linear (side_of q n p)
+
+-- isometries are equal exactly where each point has one image by both
+abbrev pub IsometriesAreTheirMaps : Type 0
+IsometriesAreTheirMaps = (s t : Isometry) → (s ≡ t) ↔ IsSameMap (motion_of s) (motion_of t)

@@ -1,4 +1,10 @@
 pub mod Linear
 pub mod Matrix
 pub mod LinearView
+pub mod Motion
+pub mod Entry
+pub mod WidePointView
+pub mod IsometryView
 pub mod Laws
+pub mod MatrixLaws
+pub mod MotionLaws

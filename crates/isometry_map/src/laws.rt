@@ -1,6 +1,6 @@
-//! What the numbers of linear parts stand for. These functions do nothing: each contract is a law of matrices.
+//! What the numbers of linear parts stand for, and what isometries keep. These functions do nothing: each contract is a law of matrices.
 
-ghost use Rattle.isometry_map.specs.Laws.{CompositionIsProduct, PartsDiffer, ReflectionsKeepTheirLines, TurnedReverse};
+ghost use Rattle.isometry_map.specs.Laws.{CompositionIsProduct, DirectionsGoToDirections, IsometriesAreTheirMaps, PartsDiffer, ReflectionsKeepTheirLines, SidesAreKept, TurnedReverse};
 
 /// The composition of two linear parts stands for the product of their matrices.
 pub fn composition_is_product()
@@ -20,4 +20,19 @@ pub fn reflections_keep_their_lines()
 /// The determinant is -1 where a linear part reverses orientation, else 1.
 pub fn turned_reverse()
     ensures { TurnedReverse }
+{}
+
+/// Where it goes in a direction from one point to another, it goes in the image of the direction between the images.
+pub fn directions_go_to_directions()
+    ensures { DirectionsGoToDirections }
+{}
+
+/// Sides of a line are kept, or are all turned where orientation is reversed.
+pub fn sides_are_kept()
+    ensures { SidesAreKept }
+{}
+
+/// Isometries are equal exactly where each point has one image by both.
+pub fn isometries_are_their_maps()
+    ensures { IsometriesAreTheirMaps }
 {}

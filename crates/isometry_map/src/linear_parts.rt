@@ -4,6 +4,7 @@ ghost use Rattle.std.specs.Prelude.{◌≡◌, ◌≤◌};
 ghost use Rattle.isometry_map.specs.Linear.{is_reflection, composed};
 ghost use Rattle.isometry_map.specs.Matrix.{matrix_of, matrix_product, IsSameMatrix};
 
+use crate::wide_points::{WidePoint, cosine, scaled};
 use plane_geometry::Dir;
 
 /// The linear part of an isometry: a rotation by a multiple of 45 degrees, or the reflection in a line of one of the
@@ -21,7 +22,10 @@ impl Linear {
     ghost use Rattle.plane_geometry.specs.DirView.{dir_number};
     ghost use Rattle.isometry_map.specs.Linear.{rotation, reflection};
     ghost use Rattle.isometry_map.specs.LinearView.{linear_number, matrix_in};
-    ghost use Rattle.isometry_map.specs.Matrix.{determinant, IsMirrorOf};
+    ghost use Rattle.isometry_map.specs.Matrix.{determinant, image_of, IsMirrorOf};
+    ghost use Rattle.isometry_map.specs.WidePointView.{wide_position, IsPointWithin};
+    ghost use Rattle.plane_geometry.specs.Multiple.{IsSameVector};
+    ghost use Rattle.std.specs.Prelude.{◌^◌};
 
     /// The identity.
     pub fn identity() -> Linear
@@ -38,6 +42,14 @@ impl Linear {
         Linear {
             number: 8 + d.number() % 8,
         }
+    }
+
+    /// The reflection in a line of direction 0 to 7.
+    pub(crate) fn across(number: u8) -> Linear
+        requires { number ≤ 7 }
+        ensures { linear_number result ≡ reflection number }
+    {
+        Linear { number: 8 + number }
     }
 
     /// The linear part of `first`, then `self`.
@@ -58,6 +70,30 @@ impl Linear {
         is_turned(self.number)
     }
 
+    /// The vector that `v` becomes.
+    pub(crate) fn image(self, v: &WidePoint) -> WidePoint
+        requires { IsPointWithin (2 ^ 70) 17 v.now }
+        ensures { IsSameVector (wide_position result) (image_of (matrix_in self) (wide_position v.now)) }
+    {
+        let cos = cosine(self.number);
+        let sin = cosine(self.number + 6);
+        let along = WidePoint {
+            x: scaled(cos, &v.x),
+            y: scaled(sin, &v.x),
+        };
+        if is_turned(self.number) {
+            WidePoint {
+                x: along.x.plus(&scaled(sin, &v.y)),
+                y: along.y.minus(&scaled(cos, &v.y)),
+            }
+        } else {
+            WidePoint {
+                x: along.x.minus(&scaled(sin, &v.y)),
+                y: along.y.plus(&scaled(cos, &v.y)),
+            }
+        }
+    }
+
     /// The number, 0 to 15.
     pub fn number(self) -> u8
         ensures { result ≡ linear_number self }
@@ -73,8 +109,8 @@ fn is_turned(linear: u8) -> bool
     8 <= linear
 }
 
-/// The number of the linear part of j, then i.
-pub fn compose_linear(i: u8, j: u8) -> u8
+// The number of the linear part of j, then i.
+fn compose_linear(i: u8, j: u8) -> u8
     requires later { i ≤ 15 }
     requires earlier { j ≤ 15 }
     ensures value { result ≡ composed i j }

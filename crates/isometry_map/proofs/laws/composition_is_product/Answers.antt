@@ -1,4 +1,4 @@
-use Rattle.isometry_map.proofs.Tables.{composition_is_product}
+use Rattle.isometry_map.specs.MatrixLaws.{composition_is_product}
 use Rattle.isometry_map.proofs.laws.composition_is_product.Goals as goal
 
 pub returns : goal.returns

@@ -1,4 +1,4 @@
-use Rattle.isometry_map.proofs.Tables.{reflections_keep_their_lines}
+use Rattle.isometry_map.specs.MatrixLaws.{reflections_keep_their_lines}
 use Rattle.isometry_map.proofs.laws.reflections_keep_their_lines.Goals as goal
 
 pub returns : goal.returns

@@ -1,6 +1,6 @@
 use Rattle.std.proofs.Common.{subst, sym, ℕ, arith}
 use Rattle.isometry_map.specs.Matrix.{matrix_of, matrix_product, IsSameMatrix}
-use Rattle.isometry_map.proofs.Tables.{composition_is_product}
+use Rattle.isometry_map.specs.MatrixLaws.{composition_is_product}
 use Rattle.isometry_map.proofs.linear_parts.compose_linear.Goals as goal
 
 pub returns-clause-product : goal.returns-clause-product

@@ -1,7 +1,7 @@
 use Rattle.std.proofs.Common.{subst, sym, ℕ, ◌+◌, ◌%◌, arith}
 use Rattle.plane_geometry.specs.DirView.{dir_number}
 use Rattle.isometry_map.specs.Matrix.{matrix_of, IsMirrorOf}
-use Rattle.isometry_map.proofs.Tables.{reflections_keep_their_lines}
+use Rattle.isometry_map.specs.MatrixLaws.{reflections_keep_their_lines}
 use Rattle.isometry_map.proofs.linear_parts.Linear.reflection.Goals as goal
 
 pub returns-clause-mirror : goal.returns-clause-mirror

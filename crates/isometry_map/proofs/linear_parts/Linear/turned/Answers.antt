@@ -2,7 +2,7 @@ use Rattle.std.proofs.Common.{subst, sym, Bool, cond, pos, negsuc, arith}
 use Rattle.surd_number.specs.Number.{IsSame, whole}
 use Rattle.isometry_map.specs.LinearView.{linear_number}
 use Rattle.isometry_map.specs.Matrix.{matrix_of, determinant}
-use Rattle.isometry_map.proofs.Tables.{turned_reverse}
+use Rattle.isometry_map.specs.MatrixLaws.{turned_reverse}
 use Rattle.isometry_map.proofs.linear_parts.Linear.turned.Goals as goal
 
 pub returns-clause-reverses : goal.returns-clause-reverses

@@ -15,7 +15,7 @@ use Rattle.isometry_map.specs.Laws.{CompositionIsProduct, PartsDiffer, Reflectio
 
 -- ---- tests of sameness
 
-abbrev is_same : Number → Number → Bool
+abbrev pub is_same : Number → Number → Bool
 is_same x y = is_eq (compare_of x y)
 
 equal_is : (o : Ordering) → is_eq o ≡ true → o ≡ Equal
@@ -23,7 +23,7 @@ equal_is Less e = absurd (cc)
 equal_is Equal e = refl
 equal_is Greater e = absurd (cc)
 
-same_is : (x y : Number) → is_same x y ≡ true → IsSame x y
+pub same_is : (x y : Number) → is_same x y ≡ true → IsSame x y
 same_is x y e = (compare_of-equal x y).0 (equal_is (compare_of x y) e)
 
 is_same_from : (x y : Number) → IsSame x y → is_same x y ≡ true
@@ -52,10 +52,10 @@ is_same_matrix_from m n h =
 -- ---- tables
 
 -- a test of one number, or of two, below 16
-holds_at : (test : ℕ → Bool) (n : ℕ) → agree_below test (λ _. true) 16 ≡ true → n < 16 → test n ≡ true
+pub holds_at : (test : ℕ → Bool) (n : ℕ) → agree_below test (λ _. true) 16 ≡ true → n < 16 → test n ≡ true
 holds_at test n table few = agree_below_at test (λ _. true) 16 n table few
 
-holds_at_both : (test : ℕ → ℕ → Bool) (i j : ℕ) → agree_below (λ k. agree_below (test k) (λ _. true) 16) (λ _. true) 16 ≡ true → i < 16 → j < 16 → test i j ≡ true
+pub holds_at_both : (test : ℕ → ℕ → Bool) (i j : ℕ) → agree_below (λ k. agree_below (test k) (λ _. true) 16) (λ _. true) 16 ≡ true → i < 16 → j < 16 → test i j ≡ true
 holds_at_both test i j table few_i few_j = holds_at (test i) j (holds_at (λ k. agree_below (test k) (λ _. true) 16) i table few_i) few_j
 
 composes : ℕ → ℕ → Bool
