@@ -1,13 +1,16 @@
 -- What the numbers of linear parts stand for, and what isometries keep.
-use Rattle.std.specs.Prelude.{◌≡◌, ◌↔◌, ℕ, ◌<◌, pos, negsuc, if◌then◌else◌}
+use Rattle.std.specs.Prelude.{◌≡◌, ◌↔◌, ℕ, ◌<◌, pos, negsuc, List, IsTrue, if◌then◌else◌}
 use Rattle.surd_number.specs.Number.{IsSame, whole}
+use Rattle.plane_geometry.specs.declared.Point.{Point}
 use Rattle.plane_geometry.specs.Position.{Position}
+use Rattle.plane_geometry.specs.Polygon.{is_convex}
 use Rattle.plane_geometry.specs.Direction.{side_of, is_along}
 use Rattle.isometry_map.specs.declared.isometries.Isometry.{Isometry}
 use Rattle.isometry_map.specs.Linear.{reflection, is_reflection, composed, direction_image, side_image}
 use Rattle.isometry_map.specs.Matrix.{matrix_of, matrix_product, determinant, IsSameMatrix, IsMirrorOf}
-use Rattle.isometry_map.specs.Motion.{Motion, image_by, IsSameMap}
+use Rattle.isometry_map.specs.Motion.{Motion, image_by, side_of_images, IsSameMap}
 use Rattle.isometry_map.specs.IsometryView.{motion_of}
+use Rattle.isometry_map.specs.Folded.{AreImages, counterclockwise}
 
 -- the matrix of a composition is the product of the matrices
 abbrev pub CompositionIsProduct : Type 0
@@ -43,8 +46,15 @@ abbrev pub SidesAreKept : Type 0
 SidesAreKept =
     (t : Motion) (n : ℕ) (q p : Position)
     → t.linear < 16 → n < 16
-    → side_of (image_by t q) (direction_image t.linear n) (image_by t p) ≡ side_image t.linear (side_of q n p)
+    → side_of_images t n q p ≡ side_image t.linear (side_of q n p)
 
 -- isometries are equal exactly where each point has one image by both
 abbrev pub IsometriesAreTheirMaps : Type 0
 IsometriesAreTheirMaps = (s t : Isometry) → (s ≡ t) ↔ IsSameMap (motion_of s) (motion_of t)
+
+-- the images of the corners of a convex polygon are those of one, backwards where orientation is reversed
+abbrev pub ConvexImages : Type 0
+ConvexImages =
+    (t : Motion) → t.linear < 16 → (ps qs : List Point)
+    → AreImages t ps qs → IsTrue (is_convex ps)
+    → IsTrue (is_convex (counterclockwise (is_reflection t.linear) qs))

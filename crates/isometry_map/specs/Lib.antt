@@ -8,3 +8,5 @@ pub mod IsometryView
 pub mod Laws
 pub mod MatrixLaws
 pub mod MotionLaws
+pub mod Folded
+pub mod ConvexLaws

@@ -33,7 +33,8 @@ abbrev is_same_vector : Position → Position → Bool
 is_same_vector u v = is_same u.x v.x && is_same u.y v.y
 
 same_vector : (u v : Position) → is_same_vector u v ≡ true → IsSameVector u v
-same_vector u v e = let h = and_parts (is_same u.x v.x) (is_same u.y v.y) e in (same_is u.x v.x h.0, same_is u.y v.y h.1)
+same_vector u v e = let h = and_parts (is_same u.x v.x) (is_same u.y v.y) e
+    in (same_is u.x v.x h.0, same_is u.y v.y h.1)
 
 abbrev is_same_matrix : Matrix → Matrix → Bool
 is_same_matrix m n = (is_same m.xx n.xx && is_same m.xy n.xy) && (is_same m.yx n.yx && is_same m.yy n.yy)
@@ -43,11 +44,17 @@ same_matrix m n e =
     let h = and_parts (is_same m.xx n.xx && is_same m.xy n.xy) (is_same m.yx n.yx && is_same m.yy n.yy) e in
     let top = and_parts (is_same m.xx n.xx) (is_same m.xy n.xy) h.0 in
     let low = and_parts (is_same m.yx n.yx) (is_same m.yy n.yy) h.1 in
-    record { xx = same_is m.xx n.xx top.0; xy = same_is m.xy n.xy top.1; yx = same_is m.yx n.yx low.0; yy = same_is m.yy n.yy low.1 }
+    record {
+      xx = same_is m.xx n.xx top.0;
+      xy = same_is m.xy n.xy top.1;
+      yx = same_is m.yx n.yx low.0;
+      yy = same_is m.yy n.yy low.1;
+    }
 
 is_same_matrix_from : (m n : Matrix) → IsSameMatrix m n → is_same_matrix m n ≡ true
 is_same_matrix_from m n h =
-    ap₂ ◌&&◌ (ap₂ ◌&&◌ (is_same_from m.xx n.xx h.xx) (is_same_from m.xy n.xy h.xy)) (ap₂ ◌&&◌ (is_same_from m.yx n.yx h.yx) (is_same_from m.yy n.yy h.yy))
+    ap₂ ◌&&◌ (ap₂ ◌&&◌ (is_same_from m.xx n.xx h.xx) (is_same_from m.xy n.xy h.xy))
+    (ap₂ ◌&&◌ (is_same_from m.yx n.yx h.yx) (is_same_from m.yy n.yy h.yy))
 
 -- ---- tables
 
@@ -55,8 +62,11 @@ is_same_matrix_from m n h =
 pub holds_at : (test : ℕ → Bool) (n : ℕ) → agree_below test (λ _. true) 16 ≡ true → n < 16 → test n ≡ true
 holds_at test n table few = agree_below_at test (λ _. true) 16 n table few
 
-pub holds_at_both : (test : ℕ → ℕ → Bool) (i j : ℕ) → agree_below (λ k. agree_below (test k) (λ _. true) 16) (λ _. true) 16 ≡ true → i < 16 → j < 16 → test i j ≡ true
-holds_at_both test i j table few_i few_j = holds_at (test i) j (holds_at (λ k. agree_below (test k) (λ _. true) 16) i table few_i) few_j
+pub holds_at_both : (test : ℕ → ℕ → Bool) (i j : ℕ)
+    → agree_below (λ k. agree_below (test k) (λ _. true) 16) (λ _. true) 16 ≡ true → i < 16 → j < 16
+    → test i j ≡ true
+holds_at_both test i j table few_i few_j =
+    holds_at (test i) j (holds_at (λ k. agree_below (test k) (λ _. true) 16) i table few_i) few_j
 
 composes : ℕ → ℕ → Bool
 composes i j = is_same_matrix (matrix_of (composed i j)) (matrix_product (matrix_of i) (matrix_of j))
@@ -68,7 +78,8 @@ composes_table = refl
 pub composition_is_product : CompositionIsProduct
 unfolding composes
 composition_is_product i j few_i few_j =
-    same_matrix (matrix_of (composed i j)) (matrix_product (matrix_of i) (matrix_of j)) (holds_at_both composes i j composes_table few_i few_j)
+    same_matrix (matrix_of (composed i j)) (matrix_product (matrix_of i) (matrix_of j))
+    (holds_at_both composes i j composes_table few_i few_j)
 
 differs : ℕ → ℕ → Bool
 differs i j = not (is_same_matrix (matrix_of i) (matrix_of j)) || eqb i j
@@ -80,15 +91,18 @@ differs_table = refl
 pub parts_differ : PartsDiffer
 unfolding differs
 parts_differ i j few_i few_j same =
-    elim (or_cases (not (is_same_matrix (matrix_of i) (matrix_of j))) (eqb i j) (holds_at_both differs i j differs_table few_i few_j)) [
-      | inl e ↦ absurd (both_ways (not (is_same_matrix (matrix_of i) (matrix_of j))) (ap not (is_same_matrix_from (matrix_of i) (matrix_of j) same)) e)
+    elim (or_cases (not (is_same_matrix (matrix_of i) (matrix_of j))) (eqb i j)
+    (holds_at_both differs i j differs_table few_i few_j)) [
+      | inl e ↦ absurd (both_ways (not (is_same_matrix (matrix_of i) (matrix_of j)))
+          (ap not (is_same_matrix_from (matrix_of i) (matrix_of j) same)) e)
       | inr e ↦ eqb-true i j e
     ]
 
 keeps : ℕ → Bool
 keeps n =
     is_same_vector (image_of (matrix_of (reflection n)) (direction_vector n)) (direction_vector n)
-    && is_same_vector (image_of (matrix_of (reflection n)) (normal_of (direction_vector n))) (opposite_of (normal_of (direction_vector n)))
+    && is_same_vector (image_of (matrix_of (reflection n)) (normal_of (direction_vector n)))
+    (opposite_of (normal_of (direction_vector n)))
 
 keeps_table : agree_below keeps (λ _. true) 16 ≡ true
 unfolding keeps
@@ -100,7 +114,8 @@ reflections_keep_their_lines n few =
     let along = direction_vector n in
     let across = normal_of (direction_vector n) in
     let image : Position → Position = image_of (matrix_of (reflection n)) in
-    let h = and_parts (is_same_vector (image along) along) (is_same_vector (image across) (opposite_of across)) (holds_at keeps n keeps_table few) in
+    let h = and_parts (is_same_vector (image along) along)
+    (is_same_vector (image across) (opposite_of across)) (holds_at keeps n keeps_table few) in
     (same_vector (image along) along h.0, same_vector (image across) (opposite_of across) h.1)
 
 reverses : ℕ → Bool
@@ -112,4 +127,6 @@ reverses_table = refl
 
 pub turned_reverse : TurnedReverse
 unfolding reverses
-turned_reverse n few = same_is (determinant (matrix_of n)) (cond (is_reflection n) (whole (negsuc 0)) (whole (pos 1))) (holds_at reverses n reverses_table few)
+turned_reverse n few =
+    same_is (determinant (matrix_of n)) (cond (is_reflection n) (whole (negsuc 0)) (whole (pos 1)))
+    (holds_at reverses n reverses_table few)

@@ -10,4 +10,5 @@ wide_position p = record { x = wide_number_of p.x; y = wide_number_of p.y }
 
 -- over 2^places, both coordinates have whole numerators of at most `most` in absolute value
 abbrev pub IsPointWithin : ℕ → ℕ → WidePoint → Type 0
-IsPointWithin most places p = FitsOver most places (wide_number_of p.x) × FitsOver most places (wide_number_of p.y)
+IsPointWithin most places p =
+    FitsOver most places (wide_number_of p.x) × FitsOver most places (wide_number_of p.y)

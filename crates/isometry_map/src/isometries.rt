@@ -21,13 +21,15 @@ pub struct Isometry {
 }
 
 impl Isometry {
-    ghost use Rattle.std.specs.Prelude.{ℕ, ◌+◌, Bool};
+    ghost use Rattle.std.specs.Prelude.{ℕ, ◌+◌, ◌<◌, if◌then◌else◌};
+    ghost use Rattle.surd_number.specs.Number.{opposite_sign};
+    ghost use Rattle.plane_geometry.specs.Direction.{side_of};
     ghost use Rattle.plane_geometry.specs.Position.{Position, position_of};
     ghost use Rattle.plane_geometry.specs.Multiple.{IsSameVector};
     ghost use Rattle.plane_geometry.specs.LineView.{IsOnLine};
     ghost use Rattle.isometry_map.specs.Linear.{rotation, reflection, is_reflection, composed};
     ghost use Rattle.isometry_map.specs.LinearView.{linear_number};
-    ghost use Rattle.isometry_map.specs.Motion.{IsSameMap, IsIdentity, IsComposition, IsReflectionIn, IsReflection, image_by, identity_motion, reflection_at, IsShiftWithin};
+    ghost use Rattle.isometry_map.specs.Motion.{IsSameMap, IsIdentity, IsComposition, IsReflectionIn, IsReflection, image_by, identity_motion, reflection_at, side_of_images, IsShiftWithin};
     ghost use Rattle.isometry_map.specs.IsometryView.{linear_part, motion_of};
 
     /// Each point stays.
@@ -46,12 +48,27 @@ impl Isometry {
         }
     }
 
+    /// The isometry with these parts.
+    #[cfg(test)]
+    pub(crate) fn shifted(linear: Linear, x: Wide, y: Wide) -> Isometry
+        ensures { motion_of result ≡ record {
+          linear = linear_number linear;
+          shift = record { x = wide_number_of x; y = wide_number_of y };
+        } }
+    {
+        Isometry {
+            linear,
+            shift: WidePoint { x, y },
+        }
+    }
+
     /// The reflection in the line.
     pub fn reflection(line: &Line) -> Isometry
         ensures mirror { IsReflectionIn line.now (motion_of result) }
         ensures linear { linear_number (linear_part result) ≡ reflection (line_number line.now) }
         ensures at { (q : Position) → IsOnLine q line.now →
             IsSameMap (motion_of result) (reflection_at (line_number line.now) q) }
+        ensures fits { IsShiftWithin (2 ^ 57) (motion_of result) }
     {
         let linear = Linear::across(line.number());
         let foot = axis_point(line);
@@ -70,7 +87,10 @@ impl Isometry {
 
     /// Whether orientation is reversed.
     pub fn turned(&self) -> bool
-        ensures { result ≡ is_reflection (linear_number (linear_part self.now)) }
+        ensures value { result ≡ is_reflection (linear_number (linear_part self.now)) }
+        ensures sides { (n : ℕ) (q p : Position) → n < 16 →
+            side_of_images (motion_of self.now) n q p ≡
+            (if result then opposite_sign (side_of q n p) else side_of q n p) }
     {
         self.linear.turned()
     }

@@ -1,6 +1,6 @@
 //! What the numbers of linear parts stand for, and what isometries keep. These functions do nothing: each contract is a law of matrices.
 
-ghost use Rattle.isometry_map.specs.Laws.{CompositionIsProduct, DirectionsGoToDirections, IsometriesAreTheirMaps, PartsDiffer, ReflectionsKeepTheirLines, SidesAreKept, TurnedReverse};
+ghost use Rattle.isometry_map.specs.Laws.{CompositionIsProduct, ConvexImages, DirectionsGoToDirections, IsometriesAreTheirMaps, PartsDiffer, ReflectionsKeepTheirLines, SidesAreKept, TurnedReverse};
 
 /// The composition of two linear parts stands for the product of their matrices.
 pub fn composition_is_product()
@@ -35,4 +35,9 @@ pub fn sides_are_kept()
 /// Isometries are equal exactly where each point has one image by both.
 pub fn isometries_are_their_maps()
     ensures { IsometriesAreTheirMaps }
+{}
+
+/// The images of the corners of a convex polygon are those of one, and run the other way where orientation is reversed.
+pub fn images_are_convex()
+    ensures { ConvexImages }
 {}

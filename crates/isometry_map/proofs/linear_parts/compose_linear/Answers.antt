@@ -7,5 +7,6 @@ pub returns-clause-product : goal.returns-clause-product
 returns-clause-product c =
     let i = c.args.i in
     let j = c.args.j in
-    subst (λ (n : ℕ). IsSameMatrix (matrix_of n) (matrix_product (matrix_of i) (matrix_of j))) (sym c.composed_number.ensures.value)
+    subst (λ (n : ℕ). IsSameMatrix (matrix_of n) (matrix_product (matrix_of i) (matrix_of j)))
+    (sym c.composed_number.ensures.value)
     (composition_is_product i j (omega (arith, c.requires.later)) (omega (arith, c.requires.earlier)))

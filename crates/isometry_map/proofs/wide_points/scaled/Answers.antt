@@ -20,7 +20,9 @@ pub half_root-requires-in-MinusHalfRoot : goal.half_root-requires-in-MinusHalfRo
 half_root-requires-in-MinusHalfRoot c = wide_half_root (wide_number_of c.args.w.now) c.requires
 
 pub negative-requires-in-MinusHalfRoot : goal.negative-requires-in-MinusHalfRoot
-negative-requires-in-MinusHalfRoot c = root_fits (wide_number_of c.half_root-in-MinusHalfRoot.result) (wide_number_of c.args.w.now) c.half_root-in-MinusHalfRoot.ensures.exact c.requires
+negative-requires-in-MinusHalfRoot c =
+    root_fits (wide_number_of c.half_root-in-MinusHalfRoot.result)
+    (wide_number_of c.args.w.now) c.half_root-in-MinusHalfRoot.ensures.exact c.requires
 
 pub returns-in-One : goal.returns-in-One
 returns-in-One c =
@@ -48,4 +50,6 @@ returns-in-MinusHalfRoot c =
     let z = wide_number_of c.half_root-in-MinusHalfRoot.result in
     let r = wide_number_of c.negative-in-MinusHalfRoot.result in
     let P : Entry → Type 0 = λ entry. IsSame r (product_of (entry_number entry) w) in
-    subst P (sym c.in-MinusHalfRoot.is) (times_minus_root r z w c.negative-in-MinusHalfRoot.ensures c.half_root-in-MinusHalfRoot.ensures.exact)
+    subst P (sym c.in-MinusHalfRoot.is)
+    (times_minus_root r z w c.negative-in-MinusHalfRoot.ensures
+    c.half_root-in-MinusHalfRoot.ensures.exact)

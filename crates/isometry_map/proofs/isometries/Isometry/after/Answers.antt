@@ -13,17 +13,22 @@ image-requires c = reflection_fits (motion_of c.args.first.now) c.requires.mirro
 pub plus-requires-clause-few : goal.plus-requires-clause-few
 plus-requires-clause-few c =
     let u = wide_position c.image.result in
-    point_more (2 ^ 57) (2 ^ 72) 18 u (lit≤ tt) (term_fits (linear_number c.args.self.now.linear) u (motion_of c.args.first.now) c.requires.mirror c.image.ensures)
+    point_more (2 ^ 57) (2 ^ 72) 18 u (lit≤ tt)
+    (term_fits (linear_number c.args.self.now.linear) u
+    (motion_of c.args.first.now) c.requires.mirror c.image.ensures)
 
 pub returns-clause-composition : goal.returns-clause-composition
 returns-clause-composition c =
     let s = motion_of c.args.self.now in
     let r : Motion = record { linear = linear_number c.after.result; shift = wide_position c.plus.result } in
     composes r s (motion_of c.args.first.now) c.after.ensures.product
-    (image_shifted s (wide_position c.plus.result) (wide_position c.image.result) (motion_of c.args.first.now).shift c.plus.ensures c.image.ensures)
+    (image_shifted s (wide_position c.plus.result) (wide_position c.image.result)
+    (motion_of c.args.first.now).shift c.plus.ensures c.image.ensures)
 
 pub returns-clause-fits : goal.returns-clause-fits
 returns-clause-fits c =
     let u = wide_position c.image.result in
-    λ most few. shift_grows most (wide_position c.plus.result) u (motion_of c.args.self.now).shift c.plus.ensures
-    (term_fits (linear_number c.args.self.now.linear) u (motion_of c.args.first.now) c.requires.mirror c.image.ensures) few
+    λ most few. shift_grows most (wide_position c.plus.result) u
+    (motion_of c.args.self.now).shift c.plus.ensures
+    (term_fits (linear_number c.args.self.now.linear) u
+    (motion_of c.args.first.now) c.requires.mirror c.image.ensures) few

@@ -11,6 +11,11 @@ pub returns-clause-stays : goal.returns-clause-stays
 returns-clause-stays c =
     let n = wide_number_of c.of-nought.result in
     let zero_shift : n ≡ nought = c.of-nought.ensures.value ∙ c.whole.ensures.number in
-    let at : Number → Motion = λ x. record { linear = linear_number c.identity.result; shift = record { x = x; y = x } } in
-    let same : at n ≡ identity_motion = ap at zero_shift ∙ ap (λ k. let t : Motion = record { linear = k; shift = record { x = nought; y = nought } } in t) c.identity.ensures in
+    let at : Number → Motion = λ x. record {
+      linear = linear_number c.identity.result;
+      shift = record { x = x; y = x };
+    } in
+    let same : at n ≡ identity_motion = ap at zero_shift
+    ∙ ap (λ k. let t : Motion = record { linear = k; shift = record { x = nought; y = nought } } in t)
+    c.identity.ensures in
     subst IsIdentity (sym same) identity_stays

@@ -9,47 +9,39 @@ use Rattle.isometry_map.proofs.linear_parts.Linear.image.Goals as goal
 
 pub plus-requires : goal.plus-requires
 plus-requires c =
-    let n = c.args.self.number in
     let x = wide_number_of c.args.v.now.x in
     let y = wide_number_of c.args.v.now.y in
-    let cx = wide_number_of c.scaled.result in
-    let sy = wide_number_of c.scaled-then-is_turned.result in
-    wide_sum cx sy
-    (scaled_fits n cx x (entry_product cx x (entry_number c.cosine-cos.result) (cosine n) c.cosine-cos.ensures c.scaled.ensures) c.requires.0)
-    (scaled_fits (n + 6) sy y (entry_product sy y (entry_number c.cosine-sin.result) (cosine (n + 6)) c.cosine-sin.ensures c.scaled-then-is_turned.ensures) c.requires.1)
+    let m = wide_number_of c.scaled.result in
+    let n = wide_number_of c.scaled-then-is_turned.result in
+    wide_sum m n (scaled_fits c.cosine-cos.result m x c.scaled.ensures c.requires.0)
+    (scaled_fits c.cosine-sin.result n y c.scaled-then-is_turned.ensures c.requires.1)
 
 pub minus-requires : goal.minus-requires
 minus-requires c =
-    let n = c.args.self.number in
     let x = wide_number_of c.args.v.now.x in
     let y = wide_number_of c.args.v.now.y in
-    let sx = wide_number_of c.scaled-2.result in
-    let cy = wide_number_of c.scaled-then-is_turned-2.result in
-    wide_difference sx cy
-    (scaled_fits (n + 6) sx x (entry_product sx x (entry_number c.cosine-sin.result) (cosine (n + 6)) c.cosine-sin.ensures c.scaled-2.ensures) c.requires.0)
-    (scaled_fits n cy y (entry_product cy y (entry_number c.cosine-cos.result) (cosine n) c.cosine-cos.ensures c.scaled-then-is_turned-2.ensures) c.requires.1)
+    let m = wide_number_of c.scaled-2.result in
+    let n = wide_number_of c.scaled-then-is_turned-2.result in
+    wide_difference m n (scaled_fits c.cosine-sin.result m x c.scaled-2.ensures c.requires.0)
+    (scaled_fits c.cosine-cos.result n y c.scaled-then-is_turned-2.ensures c.requires.1)
 
 pub minus-requires-else-is_turned : goal.minus-requires-else-is_turned
 minus-requires-else-is_turned c =
-    let n = c.args.self.number in
     let x = wide_number_of c.args.v.now.x in
     let y = wide_number_of c.args.v.now.y in
-    let cx = wide_number_of c.scaled.result in
-    let sy = wide_number_of c.scaled-else-is_turned.result in
-    wide_difference cx sy
-    (scaled_fits n cx x (entry_product cx x (entry_number c.cosine-cos.result) (cosine n) c.cosine-cos.ensures c.scaled.ensures) c.requires.0)
-    (scaled_fits (n + 6) sy y (entry_product sy y (entry_number c.cosine-sin.result) (cosine (n + 6)) c.cosine-sin.ensures c.scaled-else-is_turned.ensures) c.requires.1)
+    let m = wide_number_of c.scaled.result in
+    let n = wide_number_of c.scaled-else-is_turned.result in
+    wide_difference m n (scaled_fits c.cosine-cos.result m x c.scaled.ensures c.requires.0)
+    (scaled_fits c.cosine-sin.result n y c.scaled-else-is_turned.ensures c.requires.1)
 
 pub plus-requires-else-is_turned : goal.plus-requires-else-is_turned
 plus-requires-else-is_turned c =
-    let n = c.args.self.number in
     let x = wide_number_of c.args.v.now.x in
     let y = wide_number_of c.args.v.now.y in
-    let sx = wide_number_of c.scaled-2.result in
-    let cy = wide_number_of c.scaled-else-is_turned-2.result in
-    wide_sum sx cy
-    (scaled_fits (n + 6) sx x (entry_product sx x (entry_number c.cosine-sin.result) (cosine (n + 6)) c.cosine-sin.ensures c.scaled-2.ensures) c.requires.0)
-    (scaled_fits n cy y (entry_product cy y (entry_number c.cosine-cos.result) (cosine n) c.cosine-cos.ensures c.scaled-else-is_turned-2.ensures) c.requires.1)
+    let m = wide_number_of c.scaled-2.result in
+    let n = wide_number_of c.scaled-else-is_turned-2.result in
+    wide_sum m n (scaled_fits c.cosine-sin.result m x c.scaled-2.ensures c.requires.0)
+    (scaled_fits c.cosine-cos.result n y c.scaled-else-is_turned-2.ensures c.requires.1)
 
 pub returns-then-is_turned : goal.returns-then-is_turned
 returns-then-is_turned c =
@@ -61,7 +53,8 @@ returns-then-is_turned c =
     let sy = wide_number_of c.scaled-then-is_turned.result in
     let cos = entry_number c.cosine-cos.result in
     let sin = entry_number c.cosine-sin.result in
-    reflected n v cx sx cy sy (wide_number_of c.plus.result) (wide_number_of c.minus.result) (sym c.is_turned.ensures ∙ c.if-is_turned.true)
+    reflected n v cx sx cy sy (wide_number_of c.plus.result) (wide_number_of c.minus.result)
+    (sym c.is_turned.ensures ∙ c.if-is_turned.true)
     (record {
       cx_is = entry_product cx v.x cos (cosine n) c.cosine-cos.ensures c.scaled.ensures;
       sx_is = entry_product sx v.x sin (cosine (n + 6)) c.cosine-sin.ensures c.scaled-2.ensures;
@@ -79,7 +72,8 @@ returns-else-is_turned c =
     let sy = wide_number_of c.scaled-else-is_turned.result in
     let cos = entry_number c.cosine-cos.result in
     let sin = entry_number c.cosine-sin.result in
-    rotated n v cx sx cy sy (wide_number_of c.minus-else-is_turned.result) (wide_number_of c.plus-else-is_turned.result) (sym c.is_turned.ensures ∙ c.if-is_turned.false)
+    rotated n v cx sx cy sy (wide_number_of c.minus-else-is_turned.result)
+    (wide_number_of c.plus-else-is_turned.result) (sym c.is_turned.ensures ∙ c.if-is_turned.false)
     (record {
       cx_is = entry_product cx v.x cos (cosine n) c.cosine-cos.ensures c.scaled.ensures;
       sx_is = entry_product sx v.x sin (cosine (n + 6)) c.cosine-sin.ensures c.scaled-2.ensures;

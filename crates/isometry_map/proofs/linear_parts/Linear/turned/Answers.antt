@@ -8,4 +8,6 @@ use Rattle.isometry_map.proofs.linear_parts.Linear.turned.Goals as goal
 pub returns-clause-reverses : goal.returns-clause-reverses
 returns-clause-reverses c =
     let l = c.args.self in
-    subst (λ (b : Bool). IsSame (determinant (matrix_of (linear_number l))) (cond b (whole (negsuc 0)) (whole (pos 1)))) (sym c.is_turned.ensures) (turned_reverse (linear_number l) (omega (arith, l.in_range)))
+    subst (λ (b : Bool). IsSame (determinant (matrix_of (linear_number l)))
+    (cond b (whole (negsuc 0)) (whole (pos 1)))) (sym c.is_turned.ensures)
+    (turned_reverse (linear_number l) (omega (arith, l.in_range)))
