@@ -11,6 +11,8 @@ mod checks;
 #[cfg(test)]
 mod creases;
 #[cfg(test)]
+mod faces;
+#[cfg(test)]
 mod faults;
 #[cfg(test)]
 mod limits;

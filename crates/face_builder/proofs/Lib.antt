@@ -1,0 +1,12 @@
+mod Border
+mod Chains
+mod FanMaps
+mod Lengths
+mod Nexts
+mod Ordered
+mod Polygons
+mod Rounds
+mod SideFills
+mod Sides
+mod Sorting
+mod Walks

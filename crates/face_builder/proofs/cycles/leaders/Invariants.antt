@@ -1,0 +1,7 @@
+use Rattle.std.proofs.Common.{◌≡◌, ◌++◌, drop}
+use Rattle.face_builder.specs.Cycle.{leaders_from}
+use Rattle.face_builder.proofs.cycles.leaders.Given as goal
+
+abbrev pub invariant-loop-i : goal.invariant-loop-i
+invariant-loop-i l = l.leaders.items ++ leaders_from l.nexts l.i (drop l.i l.nexts)
+    ≡ leaders_from l.nexts 0 l.nexts

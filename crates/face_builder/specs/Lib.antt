@@ -1,0 +1,12 @@
+pub mod Cycle
+pub mod Faces
+pub mod Fan
+pub mod FanMap
+pub mod HalfEdge
+pub mod MapRules
+pub mod Shared
+pub mod SideFill
+pub mod Sorted
+pub mod Vertices
+pub mod View
+pub mod Walk

@@ -1,0 +1,122 @@
+//! Vertices: the corners of the sheet and the ends of the pieces.
+
+ghost use Rattle.std.specs.Prelude.{◌≡◌, ◌∷◌, ◌++◌, [], IfOk, OnOk};
+ghost use Rattle.std.specs.List.{flat_map};
+ghost use Rattle.plane_geometry.specs.Position.{position_of};
+ghost use Rattle.plane_geometry.specs.SegmentOf.{segment_of};
+ghost use Rattle.crease_model.specs.Sheet.{is_on_segment};
+ghost use Rattle.face_builder.specs.Sorted.{others_after, each_once, in_order};
+ghost use Rattle.face_builder.specs.Vertices.{compare_points, is_same_point, is_between, point_between, ends_between, ascending_of, vertices_along};
+
+use crease_model::Piece;
+use plane_geometry::{Point, Segment, on_segment};
+use std::alloc::{AllocError, Global};
+
+fn is_same(p: &Point, q: &Point) -> bool
+    ensures { result ≡ is_same_point p.now q.now }
+{
+    p.cmp(q).is_eq()
+}
+
+// Whether the point is on the side from one corner to another, and not at an end of it.
+fn is_between(start: &Point, end: &Point, v: &Point) -> bool
+    ensures { result ≡ is_between (record { start = start.now; end = end.now }) v.now }
+{
+    match Segment::new(start, end) {
+        Ok(side) => on_segment(v, &side) && !is_same(v, start) && !is_same(v, end),
+        Err(_) => false,
+    }
+}
+
+// Appends the point, if it is between the ends of the side.
+fn push_between(
+    points: &mut Vec<Point>,
+    start: &Point,
+    end: &Point,
+    v: &Point,
+) -> Result<(), AllocError>
+    ensures { OnOk result (points.new.items ≡ points.old.items
+        ++ point_between (record { start = start.now; end = end.now }) v.now) }
+{
+    if is_between(start, end, v) {
+        points.push(*v)?;
+    }
+    Ok(())
+}
+
+// Appends the ends of pieces that are between the ends of the side.
+fn push_ends_between(
+    points: &mut Vec<Point>,
+    start: &Point,
+    end: &Point,
+    pieces: &[Piece],
+) -> Result<(), AllocError>
+    ensures { OnOk result (points.new.items ≡ points.old.items
+        ++ flat_map (ends_between (record { start = start.now; end = end.now })) pieces.now) }
+{
+    for piece in pieces {
+        push_between(points, start, end, piece.segment.from())?;
+        push_between(points, start, end, piece.segment.to())?;
+    }
+    Ok(())
+}
+
+// Appends the points that are not the same as the one before.
+fn push_others(kept: &mut Vec<Point>, first: Point, rest: &[Point]) -> Result<(), AllocError>
+    ensures { OnOk result (kept.new.items ≡ kept.old.items ++ others_after is_same_point first rest.now) }
+{
+    let mut last = first;
+    for point in rest {
+        if !is_same(point, &last) {
+            kept.push(*point)?;
+            last = *point;
+        }
+    }
+    Ok(())
+}
+
+// The points without those that are the same as the one before.
+fn each_once(alloc: Global, points: &[Point]) -> Result<Vec<Point>, AllocError>
+    ensures { IfOk result (λ kept. kept.items ≡ each_once is_same_point points.now) }
+{
+    let mut kept = Vec::with_capacity(alloc, points.len())?;
+    if let [first, rest @ ..] = points {
+        kept.push(*first)?;
+        push_others(&mut kept, *first, rest)?;
+    }
+    Ok(kept)
+}
+
+fn sorted(mut points: Vec<Point>) -> Vec<Point>
+    ensures { result.items ≡ in_order compare_points points.items }
+{
+    points.sort_unstable();
+    points
+}
+
+// The points in ascending order, each once.
+fn ascending(alloc: Global, points: Vec<Point>) -> Result<Vec<Point>, AllocError>
+    ensures { IfOk result (λ kept. kept.items ≡ ascending_of points.items) }
+{
+    let points = sorted(points);
+    each_once(alloc, points.as_slice())
+}
+
+/// The vertices between the ends of the side from one corner to another, in this order.
+pub fn vertices_along(
+    alloc: Global,
+    start: &Point,
+    end: &Point,
+    pieces: &[Piece],
+) -> Result<Vec<Point>, AllocError>
+    ensures { IfOk result (λ along. along.items
+        ≡ vertices_along (record { start = start.now; end = end.now }) pieces.now) }
+{
+    let mut points = Vec::new(alloc);
+    push_ends_between(&mut points, start, end, pieces)?;
+    let mut along = ascending(alloc, points)?;
+    if end < start {
+        along.as_mut_slice().reverse();
+    }
+    Ok(along)
+}
