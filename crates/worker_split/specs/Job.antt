@@ -18,7 +18,7 @@ use Rattle.worker_split.specs.declared.answers.Taken.{Taken}
 use Rattle.worker_split.specs.declared.answers.Taken.TheVariants.{Accepted, Stranger}
 use Rattle.worker_split.specs.declared.answers.JobAnswer.{JobAnswer}
 use Rattle.worker_split.specs.declared.answers.JobAnswer.TheVariants.{Shown, NoMore, Paused as Waiting, NotReady}
-use Rattle.worker_split.specs.Tasks.{TaskView}
+use Rattle.worker_split.specs.Tasks.{TaskView, IsRightEnd, IsRightOutcome}
 use Rattle.worker_split.specs.Pieces.{pieces_of}
 
 -- a job on one version of a pattern: its pieces, and the budget of its open ask, if there is one
@@ -105,6 +105,28 @@ NamesTaskOf j (Some p) x = NamesTask j p x
 
 abbrev pub Matches : JobView → Outcome → Type 0
 Matches j x = NamesTaskOf j (piece_at j x.piece) x
+
+-- the task that an outcome names, with the job's rules and the piece's prefix
+abbrev pub task_told : JobView → Piece → Outcome → TaskView
+task_told j p x = record {
+  job = j.job;
+  version = j.version;
+  piece = x.piece;
+  rules = j.rules;
+  prefix = p.prefix.list;
+  from = place_of x.from;
+  budget = x.budget;
+}
+
+-- where the outcome names the job and a piece of it, its end is right for the task that it names
+abbrev pub IsRightFor : JobView → Outcome → Type 0
+IsRightFor j x =
+    (p : Piece) → piece_at j x.piece ≡ Some p → x.job ≡ j.job → x.version ≡ j.version → IsRightEnd (task_told j p x) x.end
+
+-- the outcome is right where it names the last task of its piece, unanswered so far
+abbrev pub IsRightWhereNamed : JobView → Outcome → Type 0
+IsRightWhereNamed j x = (p : Piece) → piece_at j x.piece ≡ Some p → NamesTask j p x
+    → IsRightOutcome (task_with j x.piece p x.budget) x
 
 abbrev pub answered_piece : Piece → ℕ → End → Piece
 answered_piece p budget (Found order position) =

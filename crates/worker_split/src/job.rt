@@ -1,4 +1,4 @@
-ghost use Rattle.std.specs.Prelude.{◌≡◌, ◌<◌, ◌≤◌, ◌↔◌, ℕ, length, IfOk, IsTrue, IsSome, IsNone, Option, None, Some, option_map, MatchOption};
+ghost use Rattle.std.specs.Prelude.{◌≡◌, ◌<◌, ◌≤◌, ◌↔◌, ℕ, length, IfOk, IsTrue, IsSome, IsNone, IfSome, Option, None, Some, option_map, MatchOption};
 ghost use Rattle.std.specs.Arc.{arc_value};
 ghost use Rattle.worker_split.specs.Job.{done_before};
 
@@ -37,8 +37,9 @@ impl Model for JobState {
 
 impl JobState {
     ghost use Rattle.worker_split.specs.Tasks.{task_of, IsRightOutcome};
-    ghost use Rattle.worker_split.specs.Job.{opened, asked, task_at, task_with, piece_at, Matches, NamesTask, IsTaken, kept_of, next_answer, after_answer, needed};
+    ghost use Rattle.worker_split.specs.Job.{opened, asked, task_at, piece_at, Matches, IsRightFor, IsRightWhereNamed, IsTaken, kept_of, next_answer, after_answer, needed};
     ghost use Rattle.worker_split.specs.declared.piece.Piece.{Piece};
+    ghost use Rattle.worker_split.specs.declared.outcome.Outcome.{Outcome};
 
     /// A job of which nothing was asked yet.
     pub fn open(
@@ -90,7 +91,9 @@ impl JobState {
 
     /// What a piece, counted from 1, has still to answer in the open ask.
     pub fn task(&self, piece: u32) -> Result<Option<Task>, AllocError>
-        ensures { IfOk result (λ task. option_map task_of task ≡ task_at self.now piece) }
+        ensures task { IfOk result (λ task. option_map task_of task ≡ task_at self.now piece) }
+        ensures right { IfOk result (λ task. IfSome task (λ t. (x : Outcome) → IsRightOutcome (task_of t) x
+            → IsRightFor self.now x)) }
     {
         if self.ask.is_none() {
             return Ok(None);
@@ -114,8 +117,7 @@ impl JobState {
 
     /// Takes an outcome that answers the last task of its piece. Any other changes nothing, and comes back.
     pub fn accept(&mut self, outcome: Outcome) -> Taken
-        requires { (p : Piece) → piece_at self.old outcome.piece ≡ Some p → NamesTask self.old p outcome
-            → IsRightOutcome (task_with self.old outcome.piece p outcome.budget) outcome }
+        requires { IsRightWhereNamed self.old outcome }
         ensures { IsTaken self.old outcome result self.new }
     {
         if !self.matches(&outcome) {
@@ -208,7 +210,7 @@ impl JobState {
     }
 
     /// Whether the outcome names the last task of its piece, and that is not answered.
-    fn matches(&self, outcome: &Outcome) -> bool
+    pub(crate) fn matches(&self, outcome: &Outcome) -> bool
         ensures { IsTrue result ↔ Matches self.now outcome.now }
     {
         match self.piece(outcome.piece) {
