@@ -1,2 +1,3 @@
 pub mod SplitLaws
 pub mod Untouched
+mod Gathered

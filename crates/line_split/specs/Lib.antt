@@ -9,3 +9,4 @@ pub mod CutLaws
 pub mod PartLaws
 pub mod FaultLaws
 pub mod LengthLaws
+pub mod SortedLaws

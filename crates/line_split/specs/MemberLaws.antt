@@ -1,5 +1,5 @@
 -- What is in a list, by recursion.
-use Rattle.std.proofs.Common.{◌≡◌, ℕ, zero, suc, ◌<◌, Bool, true, ◌⊎◌, inl, inr, List, [], ◌∷◌, length, get_or, refl, ap, subst, ◌∙◌, arith}
+use Rattle.std.proofs.Common.{◌≡◌, ℕ, zero, suc, ◌<◌, Bool, true, ◌⊎◌, inl, inr, List, [], ◌∷◌, ◌++◌, length, get_or, refl, ap, subst, ◌∙◌, arith}
 use Rattle.std.specs.Prelude.{Contains}
 use Rattle.std.specs.List.{AllByRecursion, list_any, filter}
 use Rattle.std.proofs.lemmas.Bool.{false≢true, or_cases, or_left, or_right, both_ways, cond_both}
@@ -57,3 +57,20 @@ module _ {X : Type 0} where
       cond_both (test x) (x ∷ filter test xs) (filter test xs) (λ ys. Member ys z)
       (λ f. elim m [ inl g ↦ inl g | inr n ↦ inr (member_filter test xs z n e) ])
       (λ f. elim m [ inl g ↦ absurd (both_ways (test x) f (ap test g ∙ e)) | inr n ↦ member_filter test xs z n e ])
+
+-- ---- joined lists
+
+module _ {X : Type 0} where
+  pub member_left : (xs ys : List X) (z : X) → Member xs z → Member (xs ++ ys) z
+  member_left [] ys z m = absurd m
+  member_left (x ∷ xs) ys z (inl e) = inl e
+  member_left (x ∷ xs) ys z (inr m) = inr (member_left xs ys z m)
+
+  pub member_right : (xs ys : List X) (z : X) → Member ys z → Member (xs ++ ys) z
+  member_right [] ys z m = m
+  member_right (x ∷ xs) ys z m = inr (member_right xs ys z m)
+
+  pub member_either : (xs ys : List X) (z : X) → Member (xs ++ ys) z → Member xs z ⊎ Member ys z
+  member_either [] ys z m = inr m
+  member_either (x ∷ xs) ys z (inl e) = inl (inl e)
+  member_either (x ∷ xs) ys z (inr m) = elim (member_either xs ys z m) [ inl n ↦ inl (inr n) | inr n ↦ inr n ]

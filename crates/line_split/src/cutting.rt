@@ -4,8 +4,9 @@ ghost use Rattle.std.specs.Prelude.{◌≡◌, ◌≢◌, ◌↔◌, ◌⊎◌, 
 ghost use Rattle.plane_geometry.specs.declared.Point.{Point};
 ghost use Rattle.plane_geometry.specs.Position.{Position};
 ghost use Rattle.plane_geometry.specs.SegmentView.{stretch_of, lesser_end, greater_end};
-ghost use Rattle.line_split.specs.Points.{is_rising, with_point, HasPointAt};
-ghost use Rattle.line_split.specs.Cuts.{is_cut, with_point_on, is_meeting, with_meeting, with_piece_cuts, cuts_from, cuts_of, IsFirstOutOfRange};
+ghost use Rattle.plane_geometry.specs.Stretch.{is_touching};
+ghost use Rattle.line_split.specs.Points.{is_rising, with_point, in_order, HasPointAt};
+ghost use Rattle.line_split.specs.Cuts.{is_cut, with_point_on, with_meeting, with_piece_cuts, cuts_from, cuts_of, IsFirstOutOfRange};
 ghost use Rattle.line_split.specs.Answer.{IsCutFault, IsFaultAt, some_if};
 
 use crease_model::Piece;
@@ -61,71 +62,91 @@ pub fn insert_point(points: &mut Vec<Point>, v: &Point) -> Result<(), AllocError
     Ok(())
 }
 
-fn insert_point_on(points: &mut Vec<Point>, s: &Segment, v: &Point) -> Result<(), AllocError>
-    ensures ok { OnOk result (points.new.items ≡ with_point_on (stretch_of s.now) points.old.items v.now) }
-    ensures err { OnErr result (points.new.items ≡ points.old.items) }
+// Gathers a point.
+fn gather(points: &mut Vec<Point>, v: &Point) -> Result<(), AllocError>
+    ensures { OnOk result (in_order points.new.items ≡ with_point (in_order points.old.items) v.now) }
+{
+    points.push(*v)?;
+    Ok(())
+}
+
+// Gathers a point, if it is on the segment.
+fn gather_on(points: &mut Vec<Point>, s: &Segment, v: &Point) -> Result<(), AllocError>
+    ensures { OnOk result (in_order points.new.items ≡ with_point_on (stretch_of s.now) (in_order points.old.items) v.now) }
 {
     if on_segment(v, s) {
-        insert_point(points, v)?;
+        gather(points, v)?;
     }
     Ok(())
 }
 
-// Whether the segments have different directions and a point in common.
-fn meeting(s: &Segment, u: &Segment) -> bool
-    ensures { result ≡ is_meeting (stretch_of s.now) (stretch_of u.now) }
+// Gathers the common point of segments that have a point in common, unless they have one direction; false where it is not of
+// two Surds.
+fn gather_common(points: &mut Vec<Point>, s: &Segment, u: &Segment) -> Result<bool, AllocError>
+    requires { IsTrue (is_touching (stretch_of s.now) (stretch_of u.now)) }
+    ensures { IfOk result (λ found. with_meeting (stretch_of s.now) (in_order points.old.items) (stretch_of u.now) ≡ some_if found (in_order points.new.items)) }
 {
-    !parallel(s, u) && share_point(s, u)
-}
-
-// Adds the common point, where they meet; false where it is not of two Surds.
-fn insert_meeting(points: &mut Vec<Point>, s: &Segment, u: &Segment) -> Result<bool, AllocError>
-    ensures ok { IfOk result (λ found. with_meeting (stretch_of s.now) points.old.items (stretch_of u.now) ≡ some_if found points.new.items) }
-    ensures err { OnErr result (points.new.items ≡ points.old.items) }
-{
-    if !meeting(s, u) {
+    if parallel(s, u) {
         return Ok(true);
     }
     match common_point(s, u) {
         Ok(v) => {
-            insert_point(points, &v)?;
+            gather(points, &v)?;
             Ok(true)
         }
         Err(_) => Ok(false),
     }
 }
 
-// Adds the points where a segment is cut by another; false where their common point is not of two Surds. Without memory a part
-// of them may be added.
-fn insert_cuts(points: &mut Vec<Point>, s: &Segment, u: &Segment) -> Result<bool, AllocError>
-    ensures { IfOk result (λ found. with_piece_cuts (stretch_of s.now) points.old.items u.now ≡ some_if found points.new.items) }
+// Gathers the points where a segment is cut by another; false where their common point is not of two Surds.
+fn gather_cuts(points: &mut Vec<Point>, s: &Segment, u: &Segment) -> Result<bool, AllocError>
+    ensures { IfOk result (λ found. with_piece_cuts (stretch_of s.now) (in_order points.old.items) u.now ≡ some_if found (in_order points.new.items)) }
 {
     if !share_point(s, u) {
         return Ok(true);
     }
-    insert_point_on(points, s, u.from())?;
-    insert_point_on(points, s, u.to())?;
-    insert_meeting(points, s, u)
+    gather_on(points, s, u.from())?;
+    gather_on(points, s, u.to())?;
+    gather_common(points, s, u)
 }
 
-// Without memory a part of the points may be added.
-fn insert_or_fault(
+fn gather_or_fault(
     points: &mut Vec<Point>,
     s: &Segment,
     piece: &Piece,
     number: u32,
 ) -> Result<(), SplitFault>
-    ensures { MatchResult result (λ _. with_piece_cuts (stretch_of s.now) points.old.items piece.now.segment ≡ Some points.new.items) (λ fault. IsFaultAt fault number (with_piece_cuts (stretch_of s.now) points.old.items piece.now.segment)) }
+    ensures { MatchResult result (λ _. with_piece_cuts (stretch_of s.now) (in_order points.old.items) piece.now.segment ≡ Some (in_order points.new.items)) (λ fault. IsFaultAt fault number (with_piece_cuts (stretch_of s.now) (in_order points.old.items) piece.now.segment)) }
 {
-    if insert_cuts(points, s, &piece.segment)? {
+    if gather_cuts(points, s, &piece.segment)? {
         Ok(())
     } else {
         Err(SplitFault::OutOfRange { piece: number })
     }
 }
 
-/// The points of a segment that are its ends, ends of pieces, or common with a piece of another direction, ascending.
+// The ends and the points at each piece, as they come.
 #[tactic(auto, unfolding(crate::specs::Cuts::cuts_of))]
+fn gathered(alloc: Global, segment: &Segment, pieces: &[Piece]) -> Result<Vec<Point>, SplitFault>
+    requires { length pieces.now < 4294967295 }
+    ensures { MatchResult result (λ points. cuts_of segment.now pieces.now ≡ Ok (in_order points.items)) (λ fault. IsCutFault fault (cuts_of segment.now pieces.now)) }
+{
+    let mut points = Vec::from_slice(alloc, &[*segment.from(), *segment.to()])?;
+    for (i, piece) in pieces.iter().enumerate() {
+        gather_or_fault(&mut points, segment, piece, i as u32 + 1)?;
+    }
+    Ok(points)
+}
+
+// Sorts points, each once.
+fn sort_once(points: &mut Vec<Point>)
+    ensures { points.new.items ≡ in_order points.old.items }
+{
+    points.sort_unstable();
+    points.dedup();
+}
+
+/// The points of a segment that are its ends, ends of pieces, or common with a piece of another direction, ascending.
 pub fn cut_points(
     alloc: Global,
     segment: &Segment,
@@ -138,9 +159,7 @@ pub fn cut_points(
         ↔ ((result ≢ Err SplitFault.Memory) × IsFirstOutOfRange (stretch_of segment.now) pieces.now number) }
     ensures exact { MatchResult result (λ points. cuts_of segment.now pieces.now ≡ Ok points.items) (λ fault. IsCutFault fault (cuts_of segment.now pieces.now)) }
 {
-    let mut points = Vec::from_slice(alloc, &[*segment.from(), *segment.to()])?;
-    for (i, piece) in pieces.iter().enumerate() {
-        insert_or_fault(&mut points, segment, piece, i as u32 + 1)?;
-    }
+    let mut points = gathered(alloc, segment, pieces)?;
+    sort_once(&mut points);
     Ok(points)
 }

@@ -16,10 +16,11 @@ use Rattle.plane_geometry.specs.Stretch.{MeetAtEnds}
 use Rattle.crease_model.specs.declared.Piece.{Piece}
 use Rattle.crease_model.specs.Rules.{AllMeetAtEnds}
 use Rattle.line_split.specs.MemberLaws.{Member, member, contained, all_member}
+use Rattle.line_split.specs.SortedLaws.{before_members, sorted_cons, sorted_rest, sorted_none, sorted_single, one_sorted}
 use Rattle.vertex_checks.specs.declared.fans.Ray.{Ray}
 use Rattle.vertex_checks.specs.Fan.{ray_number, ray_of, Leaves, compare_rays, IsFan, ray_at, with_ray, with_ray_if, fan_from, fan_of}
 use Rattle.vertex_checks.specs.Laws.{DirectionsDiffer, FanIsOne}
-use Rattle.vertex_checks.proofs.SortedLists.{before_members, sorted_cons, sorted_rest, sorted_none, sorted_single, one_sorted, cmp_less}
+use Rattle.vertex_checks.proofs.SortedLists.{cmp_less}
 use Rattle.vertex_checks.proofs.LeavesApart.{leave_apart, leave_once}
 
 -- ---- the order of rays

@@ -5,11 +5,11 @@ use Rattle.plane_geometry.specs.declared.Point.{Point}
 use Rattle.plane_geometry.specs.Position.{position_of, is_same_position}
 use Rattle.plane_geometry.specs.SegmentView.{lesser_end, greater_end, direction_number}
 use Rattle.crease_model.specs.declared.Piece.{Piece}
+use Rattle.line_split.specs.SortedLaws.{equal_is}
 use Rattle.vertex_checks.specs.declared.fans.Ray.{Ray}
 use Rattle.vertex_checks.specs.Fan.{ray_of, ray_at, with_ray, with_ray_if}
 use Rattle.vertex_checks.specs.FanMap.{equal_points}
 use Rattle.vertex_checks.proofs.FanLaws.{same_point, same_itself, low, high, onward, back, begins, arrives, ends_differ}
-use Rattle.vertex_checks.proofs.SortedVertices.{equal_is}
 
 -- both rays of a piece, the second after the first, are the one at each point
 module _ (p : Piece) (old mid new : Point → List Ray) (q : Point) where

@@ -9,7 +9,7 @@ use Rattle.crease_model.specs.declared.Kind.TheVariants.{Mountain, Valley}
 use Rattle.crease_model.specs.declared.Piece.{Piece}
 use Rattle.crease_model.specs.View.{PatternView}
 use Rattle.crease_model.specs.Rules.{IsPattern}
-use Rattle.line_split.specs.MemberLaws.{Member, member, contained}
+use Rattle.line_split.specs.MemberLaws.{Member, member, contained, member_left, member_right, member_either}
 use Rattle.vertex_checks.specs.declared.fans.Ray.{Ray}
 use Rattle.vertex_checks.specs.declared.faults.LocalFault.{LocalFault}
 use Rattle.vertex_checks.specs.declared.faults.LocalFault.TheVariants.{Kawasaki, Maekawa, BigLittleBig}
@@ -20,7 +20,7 @@ use Rattle.plane_geometry.specs.SegmentView.{direction_number}
 use Rattle.crease_model.specs.Kind.{is_same_kind}
 use Rattle.vertex_checks.specs.Sectors.{ray_in, around, sector_at, reflected_from, ComesRound, count_of_kind, IsUnbalanced, IsSmallSector}
 use Rattle.vertex_checks.specs.Faults.{HasSmallSector, Breaks, IsFault, KawasakiIsByAngles, comes_round, kawasaki_faults, differ_by_two, maekawa_faults, is_small_sector, little_fault_at, little_faults, fan_faults, vertex_fault, faults_at, faults_of}
-use Rattle.vertex_checks.proofs.SortedLists.{member_left, member_right, member_either, member_map, map_member, member_flat, flat_member, range_member, member_range}
+use Rattle.vertex_checks.proofs.SortedLists.{member_map, map_member, member_flat, flat_member, range_member, member_range}
 use Rattle.vertex_checks.proofs.FanLaws.{fan_is, one_fan}
 use Rattle.vertex_checks.proofs.KawasakiLaws.{round_exactly}
 use Rattle.vertex_checks.proofs.VertexLaws.{vertices_are_inner_ends}

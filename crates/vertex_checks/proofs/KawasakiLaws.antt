@@ -4,10 +4,10 @@ use Rattle.std.proofs.Common.{◌≡◌, ◌↔◌, ℕ, ◌+◌, ◌-◌, ◌%�
 use Rattle.std.specs.List.Sorted.{IsStrictlySortedBy}
 use Rattle.std.proofs.lemmas.Bool.{cond-true, cond-false, le-leb, lt-leb, cases_eq}
 use Rattle.isometry_map.specs.Linear.{reflection, composed}
+use Rattle.line_split.specs.SortedLaws.{before_members, sorted_rest}
 use Rattle.vertex_checks.specs.declared.fans.Ray.{Ray}
 use Rattle.vertex_checks.specs.Fan.{ray_number, compare_rays}
 use Rattle.vertex_checks.specs.Sectors.{sector, reflected_from, ComesRound, every_other, IsStraight}
-use Rattle.vertex_checks.proofs.SortedLists.{before_members, sorted_rest}
 use Rattle.vertex_checks.proofs.FanLaws.{before_ray}
 
 -- ---- two reflections

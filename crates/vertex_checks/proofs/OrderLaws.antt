@@ -15,9 +15,10 @@ use Rattle.plane_geometry.specs.Position.{position_of, compare_positions}
 use Rattle.plane_geometry.specs.SideLaws.{order_self, order_turned, compare_is}
 use Rattle.crease_model.specs.View.{PatternView}
 use Rattle.crease_model.specs.Rules.{IsPattern}
-use Rattle.line_split.specs.MemberLaws.{Member}
+use Rattle.line_split.specs.MemberLaws.{Member, member_either}
 use Rattle.line_split.specs.Points.{is_rising}
 use Rattle.line_split.specs.PointLaws.{point_order, rising_rest, rising_later}
+use Rattle.line_split.specs.SortedLaws.{sorted_joined, sorted_cons, sorted_rest, sorted_none, sorted_single, before_members}
 use Rattle.vertex_checks.specs.declared.fans.Ray.{Ray}
 use Rattle.vertex_checks.specs.declared.faults.LocalFault.{LocalFault}
 use Rattle.vertex_checks.specs.declared.faults.LocalFault.TheVariants.{Kawasaki, BigLittleBig}
@@ -26,7 +27,7 @@ use Rattle.vertex_checks.specs.Vertices.{vertices_of}
 use Rattle.vertex_checks.specs.Fan.{compare_rays, fan_of}
 use Rattle.vertex_checks.specs.Sectors.{ray_in, no_ray}
 use Rattle.vertex_checks.specs.Faults.{variant_number, fault_direction, compare_local, compare_faults, IsInOrder, comes_round, kawasaki_faults, maekawa_faults, is_small_sector, little_fault_at, little_faults, fan_faults, vertex_fault, faults_at, faults_of}
-use Rattle.vertex_checks.proofs.SortedLists.{member_either, map_member, sorted_joined, sorted_cons, sorted_rest, sorted_none, sorted_single, before_members, AscendBy, sorted_flat, range_member, cmp_less, cmp_same}
+use Rattle.vertex_checks.proofs.SortedLists.{map_member, AscendBy, sorted_flat, range_member, cmp_less, cmp_same}
 use Rattle.vertex_checks.proofs.FanLaws.{before_ray, fan_is}
 use Rattle.vertex_checks.proofs.FaultLaws.{kawasaki_only, maekawa_only, little_at_only, little_only, sectors_with_fault}
 use Rattle.vertex_checks.proofs.VertexLaws.{vertices_are_inner_ends}

@@ -9,24 +9,10 @@ use Rattle.std.specs.Cmp.{nat_cmp_is}
 use Rattle.std.specs.Ordering.{nat_cmp}
 use Rattle.std.specs.declared.cmp.Ordering.{Ordering}
 use Rattle.std.specs.declared.cmp.Ordering.TheVariants.{Less, Equal}
-use Rattle.line_split.specs.MemberLaws.{Member, all_member, all_from_members}
+use Rattle.line_split.specs.MemberLaws.{Member, member_left, member_right, member_either}
+use Rattle.line_split.specs.SortedLaws.{sorted_none, sorted_joined}
 
 -- ---- members of joined and mapped lists
-
-module _ {X : Type 0} where
-  pub member_left : (xs ys : List X) (z : X) → Member xs z → Member (xs ++ ys) z
-  member_left [] ys z m = absurd m
-  member_left (x ∷ xs) ys z (inl e) = inl e
-  member_left (x ∷ xs) ys z (inr m) = inr (member_left xs ys z m)
-
-  pub member_right : (xs ys : List X) (z : X) → Member ys z → Member (xs ++ ys) z
-  member_right [] ys z m = m
-  member_right (x ∷ xs) ys z m = inr (member_right xs ys z m)
-
-  pub member_either : (xs ys : List X) (z : X) → Member (xs ++ ys) z → Member xs z ⊎ Member ys z
-  member_either [] ys z m = inr m
-  member_either (x ∷ xs) ys z (inl e) = inl (inl e)
-  member_either (x ∷ xs) ys z (inr m) = elim (member_either xs ys z m) [ inl n ↦ inl (inr n) | inr n ↦ inr n ]
 
 module _ {A X : Type 0} (f : A → X) where
   pub member_map : (items : List A) (a : A) → Member items a → Member (map f items) (f a)
@@ -57,70 +43,6 @@ module _ {A X : Type 0} (f : A → List X) where
       ]
 
 -- ---- ascending lists
-
-module _ {X : Type 0} (compare : X → X → Ordering) where
-  pub before_members : (x : X) (xs : List X) (z : X) → IsStrictlySortedBy compare (x ∷ xs) → Member xs z
-      → compare x z ≡ Less
-  unfolding IsStrictlySortedBy
-  before_members x xs z up m = all_member (λ y. compare x y ≡ Less) xs z up.0 m
-
-  pub sorted_cons : (x : X) (xs : List X) → ((z : X) → Member xs z → compare x z ≡ Less)
-      → IsStrictlySortedBy compare xs → IsStrictlySortedBy compare (x ∷ xs)
-  unfolding IsStrictlySortedBy
-  sorted_cons x xs before up = (all_from_members (λ y. compare x y ≡ Less) xs before, up)
-
-  pub sorted_rest : (x : X) (xs : List X) → IsStrictlySortedBy compare (x ∷ xs)
-      → IsStrictlySortedBy compare xs
-  unfolding IsStrictlySortedBy
-  sorted_rest x xs up = up.1
-
-  pub sorted_none : IsStrictlySortedBy compare []
-  unfolding IsStrictlySortedBy
-  sorted_none = tt
-
-  pub sorted_single : (x : X) → IsStrictlySortedBy compare (x ∷ [])
-  sorted_single x = sorted_cons x [] (λ z m. absurd m) sorted_none
-
-  pub sorted_joined : (xs ys : List X) → IsStrictlySortedBy compare xs → IsStrictlySortedBy compare ys
-      → ((x y : X) → Member xs x → Member ys y → compare x y ≡ Less) → IsStrictlySortedBy compare (xs ++ ys)
-  sorted_joined [] ys up up' before = up'
-  sorted_joined (x ∷ xs) ys up up' before =
-      sorted_cons x (xs ++ ys)
-      (λ z m. elim (member_either xs ys z m)
-      [ inl n ↦ before_members x xs z up n | inr n ↦ before x z (inl refl) n ])
-      (sorted_joined xs ys (sorted_rest x xs up) up' (λ y z m n. before y z (inr m) n))
-
-  -- ascending lists with the same elements are one list
-  module _ (not_itself : (x : X) → compare x x ≡ Less → ⊥)
-      (not_both : (x y : X) → compare x y ≡ Less → compare y x ≡ Less → ⊥) where
-    abbrev Has : List X → List X → Type 0
-    Has xs ys = (z : X) → Member ys z → Member xs z
-
-    same_first : (x y : X) (xs ys : List X) → IsStrictlySortedBy compare (x ∷ xs)
-        → IsStrictlySortedBy compare (y ∷ ys) → Member (y ∷ ys) x → Member (x ∷ xs) y → x ≡ y
-    same_first x y xs ys up up' (inl e) n = sym e
-    same_first x y xs ys up up' (inr m) (inl e) = e
-    same_first x y xs ys up up' (inr m) (inr n) =
-        absurd (not_both x y (before_members x xs y up n) (before_members y ys x up' m))
-
-    later : (x y z : X) (xs ys : List X) → IsStrictlySortedBy compare (x ∷ xs) → x ≡ y → Member xs z
-        → Member (y ∷ ys) z → Member ys z
-    later x y z xs ys up same m (inl e) =
-        absurd (not_itself x (subst (λ (t : X). compare x t ≡ Less) (sym (same ∙ e))
-        (before_members x xs z up m)))
-    later x y z xs ys up same m (inr n) = n
-
-    pub one_sorted : (xs ys : List X) → IsStrictlySortedBy compare xs → IsStrictlySortedBy compare ys
-        → Has ys xs → Has xs ys → xs ≡ ys
-    one_sorted [] [] up up' to from = refl
-    one_sorted [] (y ∷ ys) up up' to from = absurd (from y (inl refl))
-    one_sorted (x ∷ xs) [] up up' to from = absurd (to x (inl refl))
-    one_sorted (x ∷ xs) (y ∷ ys) up up' to from =
-        let same : x ≡ y = same_first x y xs ys up up' (to x (inl refl)) (from y (inl refl)) in
-        ap₂ ◌∷◌ same
-        (one_sorted xs ys (sorted_rest x xs up) (sorted_rest y ys up')
-        (λ z m. later x y z xs ys up same m (to z (inr m)))
-        (λ z m. later y x z ys xs up' (sym same) m (from z (inr m))))
 
 -- lists that ascend one by one, joined
 module _ {A X : Type 0} (compare : X → X → Ordering) (f : A → List X) (Before : A → A → Type 0) where
