@@ -19,12 +19,12 @@ use Rattle.crease_store.specs.declared.faults.StoreRefusal.TheVariants.{EdgeOffB
 use Rattle.crease_store.specs.Added.{IsAdded, IsAddedBetween, IsCreaseAdded, IsLineAdded, IsPieceOfAdd}
 use Rattle.crease_store.specs.InOrder.{segment_at}
 use Rattle.crease_store.specs.InOrder.{line_at}
-use Rattle.crease_store.specs.Adding.{is_touched, untouched, with_crease, with_line, if_it_fits, crease_cut, crease_added, line_added, segment_added, segment_refusal, added_between, add_of}
+use Rattle.crease_store.specs.Adding.{is_touched, untouched, new_pieces, with_crease, with_line, if_it_fits, crease_cut, crease_added, line_added, segment_added, segment_refusal, added_between, add_of}
 use Rattle.crease_store.specs.InOrder.{with_in_order}
 use Rattle.crease_store.specs.Laws.{AddedMeet, AddedIsOne}
 use Rattle.crease_store.proofs.Ascending.{one_ascending, filter_ascends}
 use Rattle.crease_store.proofs.InOrderLaws.{placed_ascends, placed_all_ascends, placed_new, placed_old, placed_either}
-use Rattle.crease_store.proofs.AddedParts.{new_pieces, piece_from_member, member_from_piece}
+use Rattle.crease_store.proofs.AddedParts.{piece_from_member, member_from_piece}
 use Rattle.crease_store.proofs.Meetings.{crease_meets}
 
 -- ---- what is added

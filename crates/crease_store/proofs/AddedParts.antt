@@ -18,14 +18,14 @@ use Rattle.crease_model.specs.declared.Piece.{Piece}
 use Rattle.crease_model.specs.Rules.{AllMeetAtEnds}
 use Rattle.line_split.specs.Cuts.{cuts_of}
 use Rattle.line_split.specs.CutLaws.{cuts_are_cuts, cuts_are_all, cuts_ascend}
-use Rattle.line_split.specs.MemberLaws.{Member, member, contained, filter_member, member_filter}
+use Rattle.line_split.specs.MemberLaws.{Member, member, contained, filter_member, member_filter, member_left, member_right, member_either}
 use Rattle.line_split.specs.Parts.{parts_of}
 use Rattle.line_split.specs.PartLaws.{IsPartEnd, IsPart, parts_are_parts, parts_are_all, part_is_on}
 use Rattle.crease_store.specs.Added.{covers, is_vertex, HasAddedKind, IsPieceOfAdd}
-use Rattle.crease_store.specs.InOrder.{segment_at}
-use Rattle.crease_store.specs.Adding.{is_touched, rest_of, rests_of, untouched, pieces_with}
+use Rattle.crease_store.specs.InOrder.{segment_at, HaveOneOnEach}
+use Rattle.crease_store.specs.Adding.{is_touched, rest_of, rests_of, untouched, new_pieces, pieces_with}
 use Rattle.crease_store.proofs.Covered.{end_lies, covers_self, same_segment, covering_between, between_same, vertex_at_new, vertex_at_old, inner_vertex_on, covered_once}
-use Rattle.crease_store.proofs.Members.{member_left, member_right, member_cases, member_flat_map, flat_map_member, piece_is}
+use Rattle.crease_store.proofs.Members.{member_flat_map, flat_map_member, piece_is}
 use Rattle.crease_store.proofs.InOrderLaws.{placed_all_either, placed_all_has}
 
 -- ---- vertices and cut points
@@ -84,10 +84,6 @@ module _ (old : List Piece) (s : Segment) (cuts : List Point) (cut : cuts_of s o
         }
 
 -- ---- the pieces
-
--- those that are put to the untouched ones
-abbrev pub new_pieces : List Piece → Kind → Segment → List Point → List Piece
-new_pieces old kind s cuts = rests_of (stretch_of s) cuts old ++ parts_of (record { kind = kind; segment = s }) cuts
 
 module _ (old : List Piece) (kind : Kind) (s : Segment) (cuts : List Point) (meetings : AllMeetAtEnds old) (cut : cuts_of s old ≡ Ok cuts) where
   abbrev new_piece : Piece
@@ -150,7 +146,7 @@ module _ (old : List Piece) (kind : Kind) (s : Segment) (cuts : List Point) (mee
 
   each_is_piece : (q : Piece) → Member (new_pieces old kind s cuts) q ⊎ Member (untouched (stretch_of s) old) q → IsPiece q
   each_is_piece q (inl m) =
-      elim (member_cases (rests_of (stretch_of s) cuts old) (parts_of new_piece cuts) q m) [
+      elim (member_either (rests_of (stretch_of s) cuts old) (parts_of new_piece cuts) q m) [
         | inl n ↦ (let w = flat_map_member (rest_of (stretch_of s) cuts) _ q n in
             let at = filter_member (is_touched (stretch_of s)) old w.0 w.1 in
             let left = filter_member (λ (t : Piece). not (covers (stretch_of s) (stretch_of t.segment))) (parts_of w.0 cuts) q w.2 in
@@ -214,6 +210,14 @@ module _ (old : List Piece) (kind : Kind) (s : Segment) (cuts : List Point) (mee
           (a.1).3
           ∙ ap (λ (t : Piece). t.kind) (covered_once old meetings u w q.segment (member old u (a.1).1) (member old w (b.1).1) (a.1).2 (b.1).2)
           ∙ sym (b.1).3
+
+  pub one_on_each : HaveOneOnEach (untouched (stretch_of s) old) (new_pieces old kind s cuts)
+  one_on_each q r m n same = one_on_segment q r (each_is_piece q (of q m)) (each_is_piece r (of r n)) same
+    where
+      of : (z : Piece) → Contains (new_pieces old kind s cuts) z ⊎ Contains (untouched (stretch_of s) old) z
+          → Member (new_pieces old kind s cuts) z ⊎ Member (untouched (stretch_of s) old) z
+      of z (inl c) = inl (member _ z c)
+      of z (inr c) = inr (member _ z c)
 
   -- ---- the list
 

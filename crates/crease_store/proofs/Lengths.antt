@@ -18,8 +18,7 @@ use Rattle.line_split.specs.LengthLaws.{with_point_length, flat_map_length}
 use Rattle.line_split.specs.Parts.{inner_points, piece_on, pieces_between, parts_of}
 use Rattle.crease_store.specs.Added.{covers}
 use Rattle.crease_store.specs.InOrder.{segment_at}
-use Rattle.crease_store.specs.Adding.{is_touched, rest_of, rests_of, untouched, pieces_with}
-use Rattle.crease_store.proofs.AddedParts.{new_pieces}
+use Rattle.crease_store.specs.Adding.{is_touched, rest_of, rests_of, untouched, new_pieces, pieces_with}
 use Rattle.crease_store.proofs.InOrderLaws.{placed_all_length}
 
 -- ---- cut points

@@ -21,3 +21,5 @@ pub mod Searching
 pub mod MergeCover
 pub mod OwnPieces
 pub mod OwnLines
+mod InOneWalk
+mod OwnCuts

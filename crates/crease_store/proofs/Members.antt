@@ -1,25 +1,13 @@
 -- What is in lists that are put together, and in lists of pieces that meet at ends alone.
 use Rattle.std.proofs.Common.{◌≡◌, ◌⊎◌, inl, inr, List, [], ◌∷◌, ◌++◌, refl, sym, subst, ◌∙◌}
 use Rattle.std.specs.List.{flat_map}
-use Rattle.std.proofs.lemmas.List.Elements.{Contains-append_left, Contains-append_right, Contains-append_cases}
 use Rattle.plane_geometry.specs.Stretch.{MeetAtEnds}
 use Rattle.plane_geometry.specs.SegmentView.{stretch_of}
 use Rattle.crease_model.specs.declared.Piece.{Piece}
 use Rattle.crease_model.specs.Rules.{AllMeetAtEnds}
-use Rattle.line_split.specs.MemberLaws.{Member, member, contained, all_member}
+use Rattle.line_split.specs.MemberLaws.{Member, all_member, member_left, member_right, member_either}
 
 -- ---- any list
-
-module _ {X : Type 0} where
-  pub member_left : (xs ys : List X) (z : X) → Member xs z → Member (xs ++ ys) z
-  member_left xs ys z m = member (xs ++ ys) z (Contains-append_left xs ys z (contained xs z m))
-
-  pub member_right : (xs ys : List X) (z : X) → Member ys z → Member (xs ++ ys) z
-  member_right xs ys z m = member (xs ++ ys) z (Contains-append_right xs ys z (contained ys z m))
-
-  pub member_cases : (xs ys : List X) (z : X) → Member (xs ++ ys) z → Member xs z ⊎ Member ys z
-  member_cases xs ys z m =
-      elim (Contains-append_cases xs ys z (contained (xs ++ ys) z m)) [ inl c ↦ inl (member xs z c) | inr c ↦ inr (member ys z c) ]
 
 module _ {X A : Type 0} (f : X → List A) where
   pub member_flat_map : (xs : List X) (x : X) (z : A) → Member xs x → Member (f x) z → Member (flat_map f xs) z
@@ -30,7 +18,7 @@ module _ {X A : Type 0} (f : X → List A) where
   pub flat_map_member : (xs : List X) (z : A) → Member (flat_map f xs) z → (x : X) × Member xs x × Member (f x) z
   flat_map_member [] z m = absurd m
   flat_map_member (y ∷ ys) z m =
-      elim (member_cases (f y) (flat_map f ys) z m) [
+      elim (member_either (f y) (flat_map f ys) z m) [
         | inl n ↦ (y, inl refl, n)
         | inr n ↦ (let w = flat_map_member ys z n in (w.0, inr w.1, w.2))
       ]

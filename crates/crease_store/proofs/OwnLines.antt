@@ -32,7 +32,7 @@ use Rattle.crease_model.specs.Rules.{IsPattern, AllMeetAtEnds, is_crease, is_cre
 use Rattle.plane_geometry.specs.Order.{is_before}
 use Rattle.line_split.specs.Cuts.{cuts_of}
 use Rattle.line_split.specs.FaultLaws.{fault_is_first}
-use Rattle.line_split.specs.MemberLaws.{Member, member, contained, all_member, all_from_members, member_any}
+use Rattle.line_split.specs.MemberLaws.{Member, member, contained, all_member, all_from_members, member_any, member_left, member_right, member_either}
 use Rattle.crease_store.specs.declared.faults.StoreRefusal.{StoreRefusal}
 use Rattle.crease_store.specs.declared.faults.StoreRefusal.TheVariants.{EdgeOffBorder, OutsideSheet, OnBorder, TooManyPieces}
 use Rattle.crease_store.specs.declared.loading.LoadLine.{LoadLine}
@@ -45,7 +45,6 @@ use Rattle.crease_store.specs.OwnLines.{plain_line, OwnLinesAreLoaded}
 use Rattle.crease_store.proofs.Refused.{between_points, added_as_crease}
 use Rattle.crease_store.proofs.AddLaws.{lines_ascend, crease_is_added, line_is_added, crease_is_one, line_is_one}
 use Rattle.crease_store.proofs.Covered.{end_lies}
-use Rattle.crease_store.proofs.Members.{member_left, member_right, member_cases}
 use Rattle.crease_store.proofs.OwnPieces.{ends_in_range, piece_from_member, member_from_piece}
 
 -- ---- lines added one after another
@@ -229,7 +228,7 @@ module _ (corners : List Point) (pieces : List Piece) (done : List Segment) (s :
         corners = refl;
         pieces = refl;
         order = rules.order.1;
-        aux = λ u. (λ c. old_or_new u (member_cases done (s ∷ []) u (member _ u c)), line_there u);
+        aux = λ u. (λ c. old_or_new u (member_either done (s ∷ []) u (member _ u c)), line_there u);
       }
 
   line_adds : after without_line (auxiliary_line s) ≡ Ok and_line

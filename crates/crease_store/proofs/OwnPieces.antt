@@ -12,10 +12,10 @@ use Rattle.crease_model.specs.declared.Kind.{Kind}
 use Rattle.crease_model.specs.declared.Piece.{Piece}
 use Rattle.crease_model.specs.Rules.{AllMeetAtEnds}
 use Rattle.line_split.specs.Cuts.{MeetsOutOfRange}
-use Rattle.line_split.specs.MemberLaws.{Member, member, contained}
+use Rattle.line_split.specs.MemberLaws.{Member, member, contained, member_left, member_right, member_either}
 use Rattle.crease_store.specs.Added.{covers, is_vertex, HasAddedKind, IsPieceOfAdd}
 use Rattle.crease_store.proofs.Covered.{new_end, old_end, meeting, vertex_parts, vertex_at_new, vertex_at_old, end_lies, covers_self, same_segment}
-use Rattle.crease_store.proofs.Members.{member_left, member_right, member_cases, piece_is, members_meet}
+use Rattle.crease_store.proofs.Members.{piece_is, members_meet}
 use Rattle.crease_store.proofs.Merges.{not_itself}
 
 -- what is an end where it is on the stretch is not strictly between its ends
@@ -90,7 +90,7 @@ module _ (old : List Piece) (kind : Kind) (s : Segment) (meets_old : (p : Piece)
 
   pub piece_from_member : (q : Piece) → Contains all_pieces q → IsPieceOfAdd old kind (stretch_of s) q
   piece_from_member q c =
-      elim (member_cases old (new_piece ∷ []) q (member all_pieces q c)) [
+      elim (member_either old (new_piece ∷ []) q (member all_pieces q c)) [
         | inl m ↦ is_piece_old q m
         | inr m ↦ elim m [ inl e ↦ subst (IsPieceOfAdd old kind (stretch_of s)) e is_piece_new | inr n ↦ absurd n ]
       ]

@@ -39,10 +39,14 @@ rests_of s cuts pieces = flat_map (rest_of s cuts) (filter (is_touched s) pieces
 abbrev pub untouched : Stretch → List Piece → List Piece
 untouched s pieces = filter (λ p. not (is_touched s p)) pieces
 
--- the pieces that s does not touch, what is left of the others, and s itself, all cut at these points
+-- what is left of the pieces that s touches, and s itself, all cut at these points
+abbrev pub new_pieces : List Piece → Kind → Segment → List Point → List Piece
+new_pieces pieces kind s cuts = rests_of (stretch_of s) cuts pieces ++ parts_of (record { kind = kind; segment = s }) cuts
+
+-- these and the pieces that s does not touch
 abbrev pub pieces_with : List Piece → Kind → Segment → List Point → List Piece
 pieces_with pieces kind s cuts =
-    with_all_in_order segment_at (untouched (stretch_of s) pieces) (rests_of (stretch_of s) cuts pieces ++ parts_of (record { kind = kind; segment = s }) cuts)
+    with_all_in_order segment_at (untouched (stretch_of s) pieces) (new_pieces pieces kind s cuts)
 
 abbrev pub with_crease : PatternView → Kind → Segment → List Point → PatternView
 with_crease pattern kind s cuts = record {

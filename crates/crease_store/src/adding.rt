@@ -4,12 +4,14 @@ ghost use Rattle.std.specs.Prelude.{◌≡◌, ◌↔◌, ℕ, ◌++◌, length,
 ghost use Rattle.crease_store.specs.declared.faults.StoreRefusal.{StoreRefusal};
 ghost use Rattle.std.specs.Bool.{IsFalse};
 ghost use Rattle.plane_geometry.specs.SegmentView.{stretch_of};
-ghost use Rattle.crease_model.specs.Rules.{IsPattern, is_crease_kind, is_on_sheet};
+ghost use Rattle.crease_model.specs.Rules.{IsPattern, is_ascending, is_crease_kind, is_on_sheet, segments_of};
 ghost use Rattle.crease_model.specs.Sheet.{is_sheet, is_outside, is_within_side};
 ghost use Rattle.line_split.specs.Cuts.{cuts_of};
+ghost use Rattle.line_split.specs.Parts.{parts_of};
+ghost use Rattle.line_split.specs.Points.{is_rising};
 ghost use Rattle.crease_store.specs.Added.{covers, IsAddedBetween};
-ghost use Rattle.crease_store.specs.InOrder.{line_at, with_in_order};
-ghost use Rattle.crease_store.specs.Adding.{add_of, segment_added, edge_added, line_added, crease_added, pieces_with, with_crease, with_line, untouched, uncovered, rest_of, rests_of, if_it_fits, segment_refusal};
+ghost use Rattle.crease_store.specs.InOrder.{line_at, with_in_order, HaveOneOnEach};
+ghost use Rattle.crease_store.specs.Adding.{add_of, segment_added, edge_added, line_added, crease_added, new_pieces, pieces_with, with_crease, with_line, untouched, uncovered, rest_of, rests_of, if_it_fits, segment_refusal};
 ghost use Rattle.crease_store.specs.AddRefusals.{HaveNoDirection, IsEdgeOffBorder, IsOutsideSheet, IsCreaseOnBorder, IsCreaseOutOfRange, GivesTooMany, IsRefusedFor};
 ghost use Rattle.crease_store.specs.Answer.{IsAnswer, HasMemory, refusal_of};
 
@@ -56,6 +58,18 @@ fn keep_untouched(alloc: Global, pieces: &[Piece], s: &Segment) -> Result<Vec<Pi
     Ok(kept)
 }
 
+// Those of ascending points that do not come before one end of a piece and come before the other: among them are those that cut
+// it.
+fn own_cuts<'a>(piece: &Piece, cuts: &'a [Point]) -> &'a [Point]
+    requires { IsTrue (is_rising cuts.now) }
+    ensures { parts_of piece.now result.now ≡ parts_of piece.now cuts.now }
+{
+    let start = cuts.partition_point(|v| v.cmp(piece.segment.from()).is_lt());
+    let rest = &cuts[start..];
+    let end = rest.partition_point(|v| v.cmp(piece.segment.to()).is_lt());
+    &rest[..end]
+}
+
 // Appends the pieces that the segment does not cover.
 fn push_uncovered(rests: &mut Vec<Piece>, s: &Segment, pieces: &[Piece]) -> Result<(), AllocError>
     ensures { OnOk result (rests.new.items ≡ rests.old.items ++ uncovered (stretch_of s.now) pieces.now) }
@@ -75,9 +89,10 @@ fn push_rest(
     cuts: &[Point],
     piece: &Piece,
 ) -> Result<(), AllocError>
+    requires { IsTrue (is_rising cuts.now) }
     ensures { OnOk result (rests.new.items ≡ rests.old.items ++ rest_of (stretch_of s.now) cuts.now piece.now) }
 {
-    let parts = cut_at(*rests.allocator(), piece, cuts)?;
+    let parts = cut_at(*rests.allocator(), piece, own_cuts(piece, cuts))?;
     push_uncovered(rests, s, parts.as_slice())
 }
 
@@ -88,6 +103,7 @@ fn cut_rests(
     s: &Segment,
     cuts: &[Point],
 ) -> Result<Vec<Piece>, AllocError>
+    requires { IsTrue (is_rising cuts.now) }
     ensures { IfOk result (λ rests. rests.items ≡ rests_of (stretch_of s.now) cuts.now pieces.now) }
 {
     let mut rests = Vec::new(alloc);
@@ -107,14 +123,16 @@ fn cut_in(
     s: &Segment,
     cuts: &[Point],
 ) -> Result<Vec<Piece>, AllocError>
+    requires up { IsTrue (is_ascending (segments_of pieces.now)) }
+    requires rising { IsTrue (is_rising cuts.now) }
+    requires one { HaveOneOnEach (untouched (stretch_of s.now) pieces.now) (new_pieces pieces.now kind s.now cuts.now) }
     ensures { IfOk result (λ all. all.items ≡ pieces_with pieces.now kind s.now cuts.now) }
 {
     let mut news = cut_rests(alloc, pieces, s, cuts)?;
     let parts = cut_at(alloc, &Piece { kind, segment: *s }, cuts)?;
     news.extend_from_slice(parts.as_slice())?;
-    let mut all = keep_untouched(alloc, pieces, s)?;
-    place_pieces(&mut all, news.as_slice())?;
-    Ok(all)
+    let kept = keep_untouched(alloc, pieces, s)?;
+    place_pieces(alloc, kept.as_slice(), news)
 }
 
 fn add_cut(

@@ -1,9 +1,25 @@
-use Rattle.std.proofs.Common.{◌≡◌, ◌≤◌, List, length, sym, ap, subst, ◌∙◌, arith}
+use Rattle.std.proofs.Common.{◌≡◌, ◌≤◌, true, List, length, sym, ap, subst, ◌∙◌, arith}
 use Rattle.crease_model.specs.declared.Piece.{Piece}
-use Rattle.crease_model.specs.Rules.{IsPattern, size_of}
-use Rattle.crease_store.specs.Adding.{pieces_with, with_crease}
+use Rattle.plane_geometry.specs.SegmentView.{stretch_of}
+use Rattle.crease_model.specs.Rules.{IsPattern, is_ascending, segments_of, size_of}
+use Rattle.line_split.specs.CutLaws.{cuts_ascend}
+use Rattle.crease_store.specs.InOrder.{HaveOneOnEach}
+use Rattle.crease_store.specs.Adding.{untouched, new_pieces, pieces_with, with_crease}
+use Rattle.crease_store.proofs.AddedParts.{one_on_each}
 use Rattle.crease_store.proofs.Kept.{IsPattern-with_crease, pieces_with_few}
 use Rattle.crease_store.proofs.adding.add_cut.Goals as goal
+
+pub cut_in-requires : goal.cut_in-requires
+cut_in-requires c =
+    let old = c.args.pattern.now in
+    let s = c.args.s.now in
+    let at : c.pieces.result.now ≡ old.pieces = c.pieces.ensures.value in
+    record {
+      up = subst (λ (ps : List Piece). is_ascending (segments_of ps) ≡ true) (sym at) c.pieces.ensures.rules.order.0;
+      rising = cuts_ascend s old.pieces c.args.cuts.now c.requires.cuts;
+      one = subst (λ (ps : List Piece). HaveOneOnEach (untouched (stretch_of s) ps) (new_pieces ps c.args.kind s c.args.cuts.now)) (sym at)
+          (one_on_each old.pieces c.args.kind s c.args.cuts.now c.pieces.ensures.rules.meetings c.requires.cuts);
+    }
 
 pub overflow_cast-result : goal.overflow_cast-result
 overflow_cast-result c =
