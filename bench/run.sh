@@ -1,13 +1,14 @@
 #!/usr/bin/env bash
-# Measures the exact numbers and the tests of open regions against plain Rust, and the reading of script text against
-# `wc -w`. Its word is the number of rounds of numbers (12000 where there is none). Times are processor times, the best of
-# five.
+# Measures the exact numbers and the tests of open regions against plain Rust, replays runs of the board among threads, and
+# measures the reading of script text against `wc -w`. Its word is the number of rounds of numbers (12000 where there is
+# none). Times are processor times, the best of five.
 cd "$(dirname "$0")" || exit 1
 rounds="${1:-12000}"
 times=5
 TIMEFORMAT='%U %S'
 # a million tests of pairs
 region_rounds=3907
+board_runs=10000
 editor=../crates/oriedita/out/oriedita
 folder="$(mktemp -d /tmp/bench.XXXXXX)" || exit 1
 trap 'rm -rf "$folder"' EXIT
@@ -53,6 +54,14 @@ beside() {
         printf "proved     %s s\nplain Rust %s s\nratio      %.2f\n", $1, $2, $1 / $2 }'
 }
 
+# threads RUNS: the histories of so many runs of the board with eight workers, replayed by board.rs.
+threads() {
+    echo "== board, $1 runs"
+    (cd ../crates/bench_board && rt run -- 1) >"$folder/log" 2>&1 || { cat "$folder/log"; exit 1; }
+    rustc -O --edition 2024 -o "$folder/board" board.rs || exit 1
+    ../crates/bench_board/out/bench_board "$1" histories | "$folder/board" || exit 1
+}
+
 # script KIND: about four million bytes of lines that are read whole and refused. Those of the kind zerolength end where
 # they begin; those of the kind onborder lie within a side of the sheet, so their directions and sides are found too.
 script() {
@@ -80,6 +89,7 @@ text() {
 
 beside numbers "$rounds"
 beside regions "$region_rounds"
+threads "$board_runs"
 if [ -x "$editor" ]; then
     text zerolength
     text onborder
