@@ -6,5 +6,5 @@ pub mod Answers
 pub mod Room
 pub mod Invariant
 pub mod State
-pub mod Rising
 pub mod Helping
+pub mod OverBoard

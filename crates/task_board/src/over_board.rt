@@ -3,7 +3,6 @@ ghost use Rattle.std.specs.Prelude.{ℕ, ◌≡◌, ◌≤◌, ◌^◌, ◌+◌,
 ghost use Rattle.std.specs.Arc.{arc_value};
 ghost use Rattle.std.specs.Option.{ForSome};
 ghost use Rattle.task_board.specs.Numbers.{kept_at};
-ghost use Rattle.task_board.specs.Rising.{Rose};
 ghost use Rattle.task_board.specs.declared.helpers.Obtained.TheVariants.{Posted, Yours};
 
 use crate::board::Board;
@@ -38,6 +37,8 @@ pub struct OverBoard<'a, W: Work, L: Ledger, R: Wait> {
 }
 
 impl<'a, W: Work, L: Ledger, R: Wait> OverBoard<'a, W, L, R> {
+    ghost use Rattle.task_board.specs.OverBoard.{seat_of};
+
     /// Helpers that hold no task.
     pub fn new(
         rt: &'a R,
@@ -50,6 +51,7 @@ impl<'a, W: Work, L: Ledger, R: Wait> OverBoard<'a, W, L, R> {
         ensures returns { ⟦<OverBoard<'a, W, L, R> as Helpers<W>>⟧.returns result ≡ 0 }
         ensures given { ⟦<OverBoard<'a, W, L, R> as Helpers<W>>⟧.given result ≡ 0 }
         ensures held { (n : ℕ) → ⟦<OverBoard<'a, W, L, R> as Helpers<W>>⟧.held result n ≡ None }
+        ensures seat { seat_of result ≡ seat }
     {
         OverBoard {
             rt,
@@ -63,8 +65,10 @@ impl<'a, W: Work, L: Ledger, R: Wait> OverBoard<'a, W, L, R> {
         }
     }
 
-    /// The seat.
-    pub fn into_seat(self) -> Seat<L> {
+    /// The seat, as its calls left it.
+    pub fn into_seat(self) -> Seat<L>
+        ensures { result ≡ seat_of self.entry }
+    {
         let OverBoard { seat, .. } = self;
         seat
     }
