@@ -1,0 +1,5 @@
+mod Ordered
+mod PairLists
+mod InsideRegions
+mod Convexity
+mod Refusals

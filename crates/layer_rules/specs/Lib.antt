@@ -1,0 +1,5 @@
+pub mod Faces
+pub mod FacePairs
+pub mod Answer
+pub mod Insides
+pub mod Candidates

@@ -1,0 +1,11 @@
+//! Which folded faces lie on one another, and the rules that any order of these layers has to meet.
+#![tactic(auto)]
+
+mod face_pairs;
+mod regions;
+#[cfg(test)]
+mod shapes;
+#[cfg(test)]
+mod tests;
+
+pub use face_pairs::{FacePair, PairsFault, pairs};
