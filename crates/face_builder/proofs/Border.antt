@@ -48,7 +48,7 @@ direction_along n p q few along =
 
 -- ---- pieces
 
-few_number : (s : Segment) → direction_number s < 16
+pub few_number : (s : Segment) → direction_number s < 16
 few_number s = omega (arith, s.dir.in_range)
 
 pub forward_runs : (k : ℕ) (p : Piece) → Runs (forward k p)
@@ -68,7 +68,7 @@ backward_runs k p =
 abbrev pub Before : Point → Point → Type 0
 Before p q = order_of (position_of p) (position_of q) ≡ Pos
 
-lex_of : (s : Segment) → lex_sign (direction_vector (direction_number s)) ≡ Pos
+pub lex_of : (s : Segment) → lex_sign (direction_vector (direction_number s)) ≡ Pos
 lex_of s =
     let S = stretch_of s in
     sym (along_lex (direction_vector S.dir) (vector_of S.from S.to) (square_sign S.dir)
@@ -247,12 +247,12 @@ strictly p q not_neg not_zero = go (order_of (position_of p) (position_of q)) re
     go Pos e = e
 
 -- what is between the ends of a side is on its segment, and no end
-record IsInside (x : Segment) (side : Side) (v : Point) : Type 0 where
-  lies : LiesOn (position_of v) (stretch_of x)
+pub record IsInside (x : Segment) (side : Side) (v : Point) : Type 0 where
+  pub lies : LiesOn (position_of v) (stretch_of x)
   not_start : is_same_point v side.start ≡ false
   not_end : is_same_point v side.end ≡ false
 
-inside_is : (x : Segment) (side : Side) (v : Point) → segment_of side.start side.end ≡ Some x
+pub inside_is : (x : Segment) (side : Side) (v : Point) → segment_of side.start side.end ≡ Some x
     → is_between side v ≡ true → IsInside x side v
 inside_is x side v at e =
     let a = and_parts (is_on_segment (position_of v) (segment_of side.start side.end))

@@ -1,24 +1,24 @@
 -- Where there is no refusal, the corners of each face are a convex polygon.
-use Rattle.std.proofs.Common.{◌≡◌, ℕ, ◌<◌, Bool, true, false, cond, not, inl, inr, List, [], ◌∷◌, map, nat_eq, find, length, ◌≤◌, Option, None, Some, refl, sym, ap, ap₂, subst, ◌∙◌, arith}
+use Rattle.std.proofs.Common.{◌≡◌, ℕ, ◌<◌, Bool, true, false, cond, not, inl, inr, List, [], ◌∷◌, map, nat_eq, find, ◌≤◌, Option, None, Some, refl, sym, ap, ap₂, subst, ◌∙◌, arith}
 use Rattle.std.specs.Prelude.{is_some, unwrap_or, nat_lt}
 use Rattle.std.specs.List.{list_all, sum}
 use Rattle.std.specs.Option.{option_or, option_map}
-use Rattle.std.proofs.lemmas.List.{length-map}
-use Rattle.std.proofs.lemmas.Bool.{and_from, cond_both, false≢true, ltb-false}
+use Rattle.std.proofs.lemmas.Bool.{and_from, cond_both, eqb-true, false≢true, ltb-false}
 use Rattle.plane_geometry.specs.declared.Point.{Point}
 use Rattle.plane_geometry.specs.DirView.{dir_number}
 use Rattle.plane_geometry.specs.Position.{position_of}
 use Rattle.plane_geometry.specs.Polygon.{Side, sides_from, sides_of, side_direction, side_number, has_direction, turn_of, turns_from, turns_of, directions_of, is_convex_turn, is_convex}
 use Rattle.crease_model.specs.PartLaws.{sheet_turns}
-use Rattle.crease_model.specs.Sheet.{is_sheet}
+use Rattle.crease_model.specs.Sheet.{is_sheet, is_least_first}
 use Rattle.crease_model.specs.View.{PatternView}
 use Rattle.line_split.specs.MemberLaws.{Member}
 use Rattle.face_builder.specs.declared.half_edges.HalfEdge.{HalfEdge}
 use Rattle.face_builder.specs.Faces.{corners_of, turns_off, is_reflex, directions_round, is_twisted, first_of, bad_half_edge, convex_refusal, faces_among}
-use Rattle.face_builder.specs.Faces.{Refusal, not_convex, too_many, count_refusal, size_refusal, map_among}
-use Rattle.face_builder.specs.MapRules.{AreFaces}
+use Rattle.face_builder.specs.Faces.{Refusal, not_convex, too_many, count_refusal}
 use Rattle.face_builder.specs.HalfEdge.{half_edges_of}
+use Rattle.face_builder.proofs.Apart.{IsBack, apart}
 use Rattle.face_builder.proofs.Border.{Runs, direction_along}
+use Rattle.face_builder.proofs.LeastFirst.{least_first}
 use Rattle.face_builder.proofs.Nexts.{GoesOn, goes_on, next_is, member_of_place}
 use Rattle.face_builder.proofs.Rounds.{Follows, IsRound, rounds}
 use Rattle.face_builder.proofs.Sides.{runs, leads}
@@ -126,11 +126,11 @@ find_some test (x ∷ xs) y e = go (test x) e (λ f. find_some test xs y f)
 some_not_none : {X : Type 0} (x : X) → Some x ≡ None → ⊥
 some_not_none x e = cc
 
-neither : {X : Type 0} (a b : Option X) → option_or a b ≡ None → (a ≡ None) × (b ≡ None)
+pub neither : {X : Type 0} (a b : Option X) → option_or a b ≡ None → (a ≡ None) × (b ≡ None)
 neither None b e = (refl, e)
 neither (Some x) b e = cc
 
-not_mapped : {X Y : Type 0} (f : X → Y) (o : Option X) → option_map f o ≡ None → o ≡ None
+pub not_mapped : {X Y : Type 0} (f : X → Y) (o : Option X) → option_map f o ≡ None → o ≡ None
 not_mapped f None e = refl
 not_mapped f (Some x) e = cc
 
@@ -140,6 +140,21 @@ module _ (p : PatternView) (directed : list_all has_direction (sides_of p.corner
 
   pub goes_round : (h : HalfEdge) → Member hs h → (g : HalfEdge) × GoesOn hs h g
   goes_round h m = let x = leads p directed h m in goes_on hs h x.0 x.1 x.2
+
+  -- what is in a face is a half-edge, and its sides are its half-edges
+  pub face_member : (face : List HalfEdge) → Member (faces_among hs) face → (g : HalfEdge) → Member face g
+      → Member hs g
+  face_member face m g n =
+      let r = rounds hs goes_round face m in
+      follows_members hs goes_round r.first r.first r.others r.closed r.member g
+      (subst (λ f. Member f g) r.whole n)
+
+  pub face_sides : (face : List HalfEdge) → Member (faces_among hs) face → sides_of (corners_of face)
+      ≡ map side_of_half face
+  face_sides face m =
+      let r = rounds hs goes_round face m in
+      ap (λ f. sides_of (corners_of f)) r.whole ∙ sides_are hs goes_round r.first r.first r.others r.closed
+      ∙ ap (map side_of_half) (sym r.whole)
 
   module _ (none : convex_refusal hs ≡ None) where
     bad : bad_half_edge hs ≡ None
@@ -156,6 +171,22 @@ module _ (p : PatternView) (directed : list_all has_direction (sides_of p.corner
         go (Some twisted) e =
             let r = rounds hs goes_round twisted (find_some is_twisted (faces_among hs) twisted e) in
             absurd (some_not_none r.first (sym (ap first_of (e ∙ ap Some r.whole)) ∙ (neither _ _ bad).1))
+
+    -- no face has a half-edge and its way back
+    pub faces_apart : (x y : HalfEdge) → IsBack x y → (face : List HalfEdge) → Member (faces_among hs) face
+        → Member face x
+        → Member face y → ⊥
+    faces_apart x y back face m in_x in_y =
+        let r = rounds hs goes_round face m in
+        let members : (h : HalfEdge) → Member (r.first ∷ r.others) h → Member hs h =
+        follows_members hs goes_round r.first r.first r.others r.closed r.member in
+        let turn : sum (turns_of (directions_round (r.first ∷ r.others))) ≡ 16 =
+        eqb-true _ 16 (from_not _ (sym (ap is_twisted r.whole) ∙ none_twisted face m)) in
+        apart hs goes_round r.first x y back r.first r.others r.closed
+        (λ h k. runs p directed h (members h (inr k)))
+        (turns_convex hs goes_round r.first r.first r.others r.closed (λ h k. none_reflex h (members h k)))
+        (omega (arith, turn))
+        (subst (λ f. Member f x) r.whole in_x) (subst (λ f. Member f y) r.whole in_y)
 
     pub faces_convex : (faces : List (List HalfEdge))
         → ((face : List HalfEdge) → Member faces face → Member (faces_among hs) face)
@@ -174,22 +205,19 @@ pub all_convex : (p : PatternView) → is_sheet p.corners ≡ true → convex_re
 all_convex p sheet none =
     faces_convex p (sheet_turns p.corners sheet).0 none (faces_among (half_edges_of p)) (λ f m. m)
 
-few_by : (n : ℕ) (later : Option Refusal) → option_or (count_refusal n) later ≡ None → n ≤ 256
+pub few_by : (n : ℕ) (later : Option Refusal) → option_or (count_refusal n) later ≡ None → n ≤ 256
 few_by n later e =
     cond_both (nat_lt 256 n) (Some (too_many n)) None (λ o. option_or o later ≡ None → n ≤ 256) (λ more f. cc)
     (λ less f. ltb-false 256 n less) e
 
--- what the map of a pattern without refusal keeps
-pub map_rules : (p : PatternView) → is_sheet p.corners ≡ true → convex_refusal (half_edges_of p) ≡ None
-    → size_refusal (faces_among (half_edges_of p)) p.pieces ≡ None
-    → AreFaces (map_among (faces_among (half_edges_of p)) p.pieces)
-map_rules p sheet convex size =
-    record {
-      few =
-          omega (
-            arith,
-            few_by (length (faces_among (half_edges_of p))) _ size,
-            length-map (faces_among (half_edges_of p)) corners_of,
-          );
-      convex = all_convex p sheet convex;
-    }
+-- each face begins at its least corner
+pub faces_least : (p : PatternView) → list_all has_direction (sides_of p.corners) ≡ true
+    → (faces : List (List HalfEdge))
+    → ((face : List HalfEdge) → Member faces face → Member (faces_among (half_edges_of p)) face)
+    → list_all is_least_first (map corners_of faces) ≡ true
+faces_least p directed [] all = refl
+faces_least p directed (face ∷ faces) all =
+    and_from _ _
+    (least_first p directed face
+    (rounds (half_edges_of p) (goes_round p directed) face (all face (inl refl))))
+    (faces_least p directed faces (λ f n. all f (inr n)))

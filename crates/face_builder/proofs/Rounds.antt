@@ -1,5 +1,5 @@
 -- Faces are closed walks: each half-edge goes on to the next, and the last one to the first.
-use Rattle.std.proofs.Common.{◌≡◌, ℕ, ◌+◌, ◌<◌, ◌≤◌, Bool, true, false, ◌⊎◌, inl, inr, List, [], ◌∷◌, ◌++◌, length, map, nat_eq, Some, refl, sym, ap, subst, ◌∙◌, arith}
+use Rattle.std.proofs.Common.{◌≡◌, ℕ, ◌+◌, ◌<◌, ◌≤◌, Bool, true, false, ◌⊎◌, inl, inr, List, [], ◌∷◌, ◌++◌, length, map, nat_eq, Option, None, Some, refl, sym, ap, subst, ◌∙◌, arith}
 use Rattle.std.specs.Prelude.{slice_get}
 use Rattle.std.specs.Ordering.{nat_cmp}
 use Rattle.std.specs.declared.cmp.Ordering.{Ordering}
@@ -14,6 +14,7 @@ use Rattle.face_builder.specs.declared.half_edges.HalfEdge.{HalfEdge}
 use Rattle.face_builder.specs.Cycle.{next_of, comes_first, is_leader, rest_from, cycle_from, leaders_from}
 use Rattle.face_builder.specs.Faces.{half_edge_in, half_edges_at, led_face, faces_among}
 use Rattle.face_builder.specs.Fan.{next_place, nexts_of}
+use Rattle.face_builder.proofs.Chains.{flat_member}
 use Rattle.face_builder.proofs.Nexts.{GoesOn, member_of_place, at_place}
 
 -- ---- places
@@ -28,6 +29,12 @@ module _ (nexts : List ℕ) where
   goes_back Less rest e = absurd (false≢true e)
   goes_back Equal rest e = inl refl
   goes_back Greater rest e = inr e
+
+  goes_later : (o : Ordering) (rest : Bool) → by_order o false true rest ≡ true → (o ≡ Equal → ⊥)
+      → (o ≡ Greater) × (rest ≡ true)
+  goes_later Less rest e other = absurd (false≢true e)
+  goes_later Equal rest e other = absurd (other refl)
+  goes_later Greater rest e other = (refl, e)
 
   pub comes_back : (first : ℕ) (steps : List ℕ) (x : ℕ) → comes_first nexts first steps (next_of nexts x)
       ≡ true
@@ -45,6 +52,25 @@ module _ (nexts : List ℕ) where
               | inr rest ↦ rest
             ]),
       ))
+
+  -- the places behind a leader are greater
+  pub rest_behind : (first : ℕ) (steps : List ℕ) (x : ℕ) → comes_first nexts first steps (next_of nexts x)
+      ≡ true
+      → (y : ℕ) → Member (rest_from nexts first steps (next_of nexts x)) y → first < y
+  rest_behind first [] x e = λ y m. absurd m
+  rest_behind first (step ∷ steps) x e = λ y.
+      let i = next_of nexts x in
+      cond_both (nat_eq i first) [] (i ∷ rest_from nexts first steps (next_of nexts i)) (λ ys. Member ys y
+      → first < y)
+      (λ same m. absurd m)
+      (λ other m.
+      let later : (nat_cmp i first ≡ Greater) × (comes_first nexts first steps (next_of nexts i) ≡ true) =
+      goes_later (nat_cmp i first) (comes_first nexts first steps (next_of nexts i)) e
+      (λ same. eqb-false i first other (ranked i first Equal (sym same))) in
+      elim m [
+        | inl at ↦ subst (λ k. first < k) at (ranked i first Greater (sym later.0))
+        | inr n ↦ rest_behind first steps i later.1 y n
+      ])
 
   -- a leader is a place of the list, and a walk from it comes back
   pub record IsLeaderAt (low high i : ℕ) : Type 0 where
@@ -80,7 +106,7 @@ module _ (hs : List HalfEdge) (goes : (h : HalfEdge) → Member hs h → (g : Ha
   Follows first h [] = GoesOn hs h first
   Follows first h (g ∷ gs) = GoesOn hs h g × Follows first g gs
 
-  next_at : (x : ℕ) (h : HalfEdge) → slice_get hs x ≡ Some h → next_of (nexts_of hs) x ≡ next_place hs h
+  pub next_at : (x : ℕ) (h : HalfEdge) → slice_get hs x ≡ Some h → next_of (nexts_of hs) x ≡ next_place hs h
   unfolding nexts_of
   next_at x h at =
       get_or-map (next_place hs) hs x h 0 (slice_get_within hs x h at)
@@ -103,12 +129,26 @@ module _ (hs : List HalfEdge) (goes : (h : HalfEdge) → Member hs h → (g : Ha
       subst (Follows f h) (sym (ap (λ o. half_edge_in o ++ half_edges_at hs ys) stands))
       (k.1, follows first y f k.0 ys at_first stands l.1)
 
+  in_some : (o : Option HalfEdge) (g : HalfEdge) → Member (half_edge_in o) g → o ≡ Some g
+  in_some None g m = absurd m
+  in_some (Some h) g (inl at) = ap Some at
+  in_some (Some h) g (inr none) = absurd none
+
+  pub at_member : (places : List ℕ) (g : HalfEdge) → Member (half_edges_at hs places) g
+      → (k : ℕ) × Member places k × (slice_get hs k ≡ Some g)
+  at_member places g m =
+      let r = flat_member (λ i. half_edge_in (slice_get hs i)) places g m in
+      (r.0, r.1, in_some (slice_get hs r.0) g r.2)
+
   -- a face is a closed walk from its first half-edge
   pub record IsRound (face : List HalfEdge) : Type 0 where
     pub first : HalfEdge
     pub others : List HalfEdge
     pub whole : face ≡ first ∷ others
     pub member : Member hs first
+    pub place : ℕ
+    pub stands : slice_get hs place ≡ Some first
+    pub behind : (g : HalfEdge) → Member others g → (k : ℕ) × (place < k) × (slice_get hs k ≡ Some g)
     pub closed : Follows first first others
 
   pub round_of : (i : ℕ) → i < length hs → is_leader (nexts_of hs) i ≡ true
@@ -123,6 +163,11 @@ module _ (hs : List HalfEdge) (goes : (h : HalfEdge) → Member hs h → (g : Ha
         others = half_edges_at hs rest;
         whole = ap (λ o. half_edge_in o ++ half_edges_at hs rest) there.1;
         member = member_of_place hs i h there.1;
+        place = i;
+        stands = there.1;
+        behind = λ g m.
+            let k = at_member rest g m in
+            (k.0, rest_behind (nexts_of hs) i (nexts_of hs) i leads k.0 k.1, k.2);
         closed = follows i i h h rest there.1 there.1 (comes_back (nexts_of hs) i (nexts_of hs) i leads);
       }
 

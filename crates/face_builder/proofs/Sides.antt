@@ -64,7 +64,7 @@ side_runs pieces side h has m =
     let part = part_is (dir_of n) side.start (vertices_along side pieces ++ side.end ∷ []) h row m in
     subst (λ (d : Dir). Goes (dir_number d) h.start h.end) (sym part.dir) part.runs
 
-all_sides : (sides : List Side) (side : Side) → list_all has_direction sides ≡ true → Member sides side
+pub all_sides : (sides : List Side) (side : Side) → list_all has_direction sides ≡ true → Member sides side
     → has_direction side ≡ true
 all_sides [] side e m = absurd m
 all_sides (s ∷ ss) side e (inl at) =
@@ -74,7 +74,7 @@ all_sides (s ∷ ss) side e (inr m) =
     all_sides ss side (and_parts (has_direction s) (list_all has_direction ss) e).1 m
 
 -- a side ends where another one starts
-abbrev StartsIn : List Side → Point → Type 0
+abbrev pub StartsIn : List Side → Point → Type 0
 StartsIn sides v = (s : Side) × Member sides s × (s.start ≡ v)
 
 first_side : (f p : Point) (ps : List Point) → StartsIn (sides_from f (p ∷ ps)) p
@@ -90,7 +90,7 @@ side_leads_from f p (q ∷ ps) side (inl at) =
 side_leads_from f p (q ∷ ps) side (inr m) =
     elim (side_leads_from f q ps side m) [ inl at ↦ inl at | inr s ↦ inr (s.0, inr s.1, s.2) ]
 
-side_leads : (corners : List Point) (side : Side) → Member (sides_of corners) side
+pub side_leads : (corners : List Point) (side : Side) → Member (sides_of corners) side
     → StartsIn (sides_of corners) side.end
 side_leads [] side m = absurd m
 side_leads (p ∷ ps) side m =
@@ -99,7 +99,7 @@ side_leads (p ∷ ps) side m =
       | inr s ↦ s
     ]
 
-border_leads : (corners : List Point) (pieces : List Piece) (h : HalfEdge)
+pub border_leads : (corners : List Point) (pieces : List Piece) (h : HalfEdge)
     → Member (border_parts corners pieces) h
     → HasExit (border_parts corners pieces) h.end
 border_leads corners pieces h m =

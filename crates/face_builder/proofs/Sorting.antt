@@ -39,7 +39,7 @@ module _ {X : Type 0} (compare : X → X → Ordering) (total : IsTotalOrder com
   Up (x ∷ []) = ⊤
   Up (x ∷ y ∷ ys) = (is_lt (compare y x) ≡ false) × Up (y ∷ ys)
 
-  order : IsStrictWeakOrder (λ x y. is_lt (compare x y))
+  pub order : IsStrictWeakOrder (λ x y. is_lt (compare x y))
   order = ranks_by total (λ (x : X). x)
 
   up_from_sorted : (xs : List X) → IsSorted compare xs → Up xs
@@ -180,7 +180,7 @@ module _ {X : Type 0} (compare : X → X → Ordering) (total : IsTotalOrder com
 
   -- ---- what is in it
 
-  with_member : (x : X) (ws : List X) (z : X) → Member (with_in_order compare x ws) z → Member (x ∷ ws) z
+  pub with_member : (x : X) (ws : List X) (z : X) → Member (with_in_order compare x ws) z → Member (x ∷ ws) z
   with_member x [] z = λ m. m
   with_member x (w ∷ ws) z =
       cond_both (is_lt (compare w x)) (w ∷ with_in_order compare x ws) (x ∷ w ∷ ws) (λ zs. Member zs z

@@ -1,11 +1,58 @@
 -- What each map of faces keeps.
-use Rattle.std.specs.Prelude.{◌≤◌, length, IsTrue}
-use Rattle.std.specs.List.{list_all}
-use Rattle.plane_geometry.specs.Polygon.{is_convex}
+use Rattle.std.specs.Prelude.{◌≡◌, ℕ, ◌≤◌, ◌<◌, ◌⊎◌, ⊤, List, [], ◌∷◌, ◌++◌, length, Some, Contains, IsTrue}
+use Rattle.std.specs.Bool.{IsFalse}
+use Rattle.std.specs.List.{AllByRecursion, list_all}
+use Rattle.plane_geometry.specs.declared.Point.{Point}
+use Rattle.plane_geometry.specs.Polygon.{sides_of, is_convex}
+use Rattle.plane_geometry.specs.SegmentView.{lesser_end, greater_end}
+use Rattle.crease_model.specs.Sheet.{is_least_first}
+use Rattle.face_builder.specs.declared.shared.SharedPiece.{SharedPiece}
+use Rattle.face_builder.specs.declared.walk.Step.{Step}
 use Rattle.face_builder.specs.Faces.{most_faces}
-use Rattle.face_builder.specs.View.{FaceMapView}
+use Rattle.face_builder.specs.View.{FaceMapView, corners_at}
+use Rattle.face_builder.specs.Walk.{is_reached}
 
--- few faces, each of them convex
+-- from p to q goes a side of the face of this number
+abbrev pub IsSideOf : List (List Point) → ℕ → Point → Point → Type 0
+IsSideOf faces face p q =
+    (corners : List Point) × (corners_at faces face ≡ Some corners)
+    × Contains (sides_of corners) (record { start = p; end = q })
+
+-- face f has the piece as a side from its lesser end to its greater one, and face g has it back
+abbrev pub IsBetween : List (List Point) → SharedPiece → ℕ → ℕ → Type 0
+IsBetween faces s f g =
+    IsSideOf faces f (lesser_end s.segment) (greater_end s.segment)
+    × IsSideOf faces g (greater_end s.segment) (lesser_end s.segment)
+
+-- a piece lies between two different faces, the lesser number first
+pub record IsShared (faces : List (List Point)) (s : SharedPiece) : Type 0 where
+  pub first : 1 ≤ s.a
+  pub order : s.a < s.b
+  pub last : s.b ≤ length faces
+  pub sides : IsBetween faces s s.a s.b ⊎ IsBetween faces s s.b s.a
+
+-- the piece lies between the one face and the other
+abbrev pub AreAcross : SharedPiece → ℕ → ℕ → Type 0
+AreAcross s f g = ((s.a ≡ f) × (s.b ≡ g)) ⊎ ((s.a ≡ g) × (s.b ≡ f))
+
+-- a step goes from a face that was reached across a piece to one that was not
+pub record IsStep (shared : List SharedPiece) (before : List Step) (s : Step) : Type 0 where
+  pub from : IsTrue (is_reached before s.from)
+  pub new : IsFalse (is_reached before s.face)
+  pub across : (x : SharedPiece) × Contains shared x × (x.piece ≡ s.piece) × AreAcross x s.from s.face
+
+-- each step does, after those before it
+abbrev pub IsWalk : List SharedPiece → List Step → List Step → Type 0
+IsWalk shared before [] = ⊤
+IsWalk shared before (s ∷ steps) = IsStep shared before s × IsWalk shared (before ++ s ∷ []) steps
+
+-- few faces, each of them convex, with its corners from the least one on; each piece between two of them; a
+-- walk that
+-- reaches all of them
 pub record AreFaces (m : FaceMapView) : Type 0 where
   pub few : length m.faces ≤ most_faces
   pub convex : IsTrue (list_all is_convex m.faces)
+  pub least : IsTrue (list_all is_least_first m.faces)
+  pub shared : AllByRecursion (IsShared m.faces) m.shared
+  pub walk : IsWalk m.shared [] m.walk
+  pub reached : (f : ℕ) → 1 ≤ f → f ≤ length m.faces → IsTrue (is_reached m.walk f)

@@ -5,7 +5,7 @@ use Rattle.face_builder.specs.HalfEdge.{half_edges_of}
 use Rattle.face_builder.specs.Faces.{faces_among, convex_refusal, size_refusal, map_among}
 use Rattle.face_builder.specs.MapRules.{AreFaces}
 use Rattle.face_builder.specs.SideFill.{half_edges_of_each}
-use Rattle.face_builder.proofs.Polygons.{map_rules}
+use Rattle.face_builder.proofs.MapLaws.{map_rules}
 use Rattle.face_builder.proofs.faces.Goals as goal
 
 pub map_among-requires-clause-rules : goal.map_among-requires-clause-rules
@@ -22,4 +22,4 @@ map_among-requires-clause-rules c = λ size.
     sym (ap₂ size_refusal faces pieces) ∙ size in
     subst (λ (fs : List (List HalfEdge)). AreFaces (map_among fs c.pieces.result.now)) (sym faces)
     (subst (λ (ps : List Piece). AreFaces (map_among (faces_among (half_edges_of pattern)) ps)) (sym pieces)
-    (map_rules pattern c.sheet.ensures.rules convex few))
+    (map_rules pattern c.sheet.ensures.rules c.pieces.ensures.rules convex few))
