@@ -9,13 +9,7 @@ use Rattle.sign_rules.specs.Rules.{RulesView, is_consistent}
 use Rattle.search_cursor.specs.Place.{is_passed}
 use Rattle.search_cursor.specs.PlaceLaws.{is_list, is_list-same}
 use Rattle.order_search.specs.Lists.{all_lists, shorter_lists, orders, open_lists}
-use Rattle.order_search.proofs.Filters.{Each, each_of, each_map, each_append, each_mapped, each_filter, filter_same, filter_none, filter_append, filter_map, filter_filter}
-
-abbrev over : List Sign → List Sign
-over signs = Over ∷ signs
-
-abbrev under : List Sign → List Sign
-under signs = Under ∷ signs
+use Rattle.order_search.specs.ListLaws.{Each, each_of, each_map, each_append, each_mapped, each_filter, filter_same, filter_none, filter_append, filter_filter, over, under, by_first}
 
 pub all_lists-length : (n : ℕ) → Each (λ q. length q ≡ n) (all_lists n)
 unfolding all_lists
@@ -49,14 +43,6 @@ pub open_lists-all : (r : RulesView)
 unfolding open_lists
 open_lists-all r = each_filter (λ q. length q < r.pairs) (is_consistent r) (shorter_lists r.pairs)
     (shorter_lists-length r.pairs)
-
--- a filter of the lists of the next length, by the first sign
-by_first : (f : List Sign → Bool) (lists : List (List Sign)) → filter f (map over lists ++ map under lists)
-    ≡ map over (filter (λ q. f (Over ∷ q)) lists) ++ map under (filter (λ q. f (Under ∷ q)) lists)
-by_first f lists =
-    filter_append f (map over lists) (map under lists)
-    ∙ ap (λ l. l ++ filter f (map under lists)) (filter_map f over lists)
-    ∙ ap (λ l. map over (filter (λ q. f (Over ∷ q)) lists) ++ l) (filter_map f under lists)
 
 -- ---- each list once
 

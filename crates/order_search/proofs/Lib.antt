@@ -1,4 +1,3 @@
-pub mod Filters
 pub mod AllLists
 pub mod Walks
 pub mod Moves

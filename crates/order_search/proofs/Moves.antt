@@ -1,13 +1,12 @@
 -- What a step of the walk passes.
-use Rattle.std.proofs.Common.{◌≡◌, Bool, true, false, ◌||◌, cond, List, [], ◌∷◌, ◌++◌, refl, sym, ◌∙◌, ap, subst, inl, inr}
+use Rattle.std.proofs.Common.{◌≡◌, Bool, true, false, ◌||◌, cond, List, [], ◌∷◌, ◌++◌, refl, sym, ◌∙◌, ap}
 use Rattle.std.proofs.Math.Bool.{or_assoc}
-use Rattle.std.proofs.lemmas.Bool.{true≢false, cases_Bool}
 use Rattle.sign_rules.specs.declared.sign.Sign.{Sign}
 use Rattle.sign_rules.specs.declared.sign.Sign.TheVariants.{Over, Under}
 use Rattle.sign_rules.specs.Rules.{RulesView, is_consistent}
-use Rattle.sign_rules.specs.ConsistencyLaws.{consistent-front}
 use Rattle.search_cursor.specs.Place.{Place, is_passed, begins_with}
-use Rattle.search_cursor.specs.PlaceLaws.{is_list, passed-turn, passed-climb, passed-down, passed-past, begins_with-split}
+use Rattle.search_cursor.specs.PlaceLaws.{is_list, passed-turn, passed-climb, passed-down, passed-past}
+use Rattle.order_search.specs.ListLaws.{none_begins}
 use Rattle.order_search.specs.Search.{after}
 use Rattle.order_search.specs.Walking.{before, descended, climbed}
 
@@ -28,18 +27,6 @@ move_by r from to own more adds same = record {
 or-false : (b : Bool) → b ≡ (b || false)
 or-false true = refl
 or-false false = refl
-
--- no consistent list begins with one that is not
-none_begins : (r : RulesView) (s q : List Sign) → is_consistent r s ≡ false → is_consistent r q ≡ true
-    → begins_with s q ≡ false
-none_begins r s q broken consistent = elim (cases_Bool (begins_with s q)) [
-  | inl begins ↦
-      let split = begins_with-split s q begins in
-      absurd (true≢false (
-      sym (consistent-front r s split.0 (subst (λ l. is_consistent r l ≡ true) split.1 consistent)) ∙ broken
-      ))
-  | inr other ↦ other
-]
 
 -- right after all with Over behind the signs
 past_over : (s q : List Sign)

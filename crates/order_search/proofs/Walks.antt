@@ -9,7 +9,7 @@ use Rattle.search_cursor.specs.PlaceLaws.{is_list, is_list-same, not_itself, pas
 use Rattle.order_search.specs.Lists.{all_lists, orders, open_lists, remaining, lists_between}
 use Rattle.order_search.specs.Search.{after}
 use Rattle.order_search.specs.Walking.{before, descended, climbed}
-use Rattle.order_search.proofs.Filters.{each_of, each_map, filter_same, filter_none, filter_filter, between_add}
+use Rattle.order_search.specs.ListLaws.{each_of, each_map, filter_same, filter_none, filter_filter, between_add}
 use Rattle.order_search.proofs.AllLists.{orders-all, open_lists-all, one_open, first_left}
 use Rattle.order_search.proofs.Moves.{IsMove, descended-move, climbed-move}
 

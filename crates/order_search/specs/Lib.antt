@@ -1,4 +1,5 @@
 pub mod Lists
+pub mod ListLaws
 pub mod Search
 pub mod Invariant
 pub mod Walking

@@ -1,7 +1,13 @@
--- Filters that agree, and how many elements they leave.
-use Rattle.std.proofs.Common.{◌≡◌, ◌+◌, Bool, true, false, not, ◌&&◌, cond, List, [], ◌∷◌, ◌++◌, length, map, refl, sym, ◌∙◌, ap, arith}
+-- Filters that agree and how many elements they leave; sign lists by their first sign, and by their fronts.
+use Rattle.std.proofs.Common.{◌≡◌, ◌+◌, Bool, true, false, not, ◌&&◌, cond, List, [], ◌∷◌, ◌++◌, length, map, refl, sym, ◌∙◌, ap, subst, arith, inl, inr}
 use Rattle.std.specs.List.{filter}
-use Rattle.std.proofs.lemmas.Bool.{true≢false}
+use Rattle.std.proofs.lemmas.Bool.{true≢false, cases_Bool}
+use Rattle.sign_rules.specs.declared.sign.Sign.{Sign}
+use Rattle.sign_rules.specs.declared.sign.Sign.TheVariants.{Over, Under}
+use Rattle.sign_rules.specs.Rules.{RulesView, is_consistent}
+use Rattle.sign_rules.specs.ConsistencyLaws.{consistent-front}
+use Rattle.search_cursor.specs.Place.{begins_with}
+use Rattle.search_cursor.specs.PlaceLaws.{begins_with-split}
 
 -- a fact of each element, from the front
 abbrev pub Each : {X : Type 0} → (X → Type 0) → List X → Type 0
@@ -108,3 +114,32 @@ between_add {X} b p q r onward further (x ∷ xs) =
     go true false true false h k e = absurd (true≢false (sym (k refl)))
     go true false false true h k e = omega (arith, e)
     go true false false false h k e = e
+
+-- ---- sign lists
+
+abbrev pub over : List Sign → List Sign
+over signs = Over ∷ signs
+
+abbrev pub under : List Sign → List Sign
+under signs = Under ∷ signs
+
+-- a filter of the lists of the next length, by the first sign
+pub by_first : (f : List Sign → Bool) (lists : List (List Sign))
+    → filter f (map over lists ++ map under lists)
+    ≡ map over (filter (λ q. f (Over ∷ q)) lists) ++ map under (filter (λ q. f (Under ∷ q)) lists)
+by_first f lists =
+    filter_append f (map over lists) (map under lists)
+    ∙ ap (λ l. l ++ filter f (map under lists)) (filter_map f over lists)
+    ∙ ap (λ l. map over (filter (λ q. f (Over ∷ q)) lists) ++ l) (filter_map f under lists)
+
+-- no consistent list begins with one that is not
+pub none_begins : (r : RulesView) (s q : List Sign) → is_consistent r s ≡ false → is_consistent r q ≡ true
+    → begins_with s q ≡ false
+none_begins r s q broken consistent = elim (cases_Bool (begins_with s q)) [
+  | inl begins ↦
+      let split = begins_with-split s q begins in
+      absurd (true≢false (
+      sym (consistent-front r s split.0 (subst (λ l. is_consistent r l ≡ true) split.1 consistent)) ∙ broken
+      ))
+  | inr other ↦ other
+]

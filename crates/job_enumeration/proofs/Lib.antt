@@ -1,0 +1,5 @@
+pub mod Parted
+pub mod Steps
+pub mod Kept
+pub mod Events
+pub mod Shown

@@ -1,0 +1,4 @@
+pub mod Record
+pub mod Closings
+pub mod Enumeration
+pub mod Laws
