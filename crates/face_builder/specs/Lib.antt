@@ -4,6 +4,7 @@ pub mod Fan
 pub mod FanMap
 pub mod HalfEdge
 pub mod MapRules
+pub mod Round
 pub mod Shared
 pub mod SideFill
 pub mod Sorted

@@ -5,6 +5,7 @@ ghost use Rattle.std.specs.Prelude.{◌≡◌, ◌<◌, length, None, MatchResul
 ghost use Rattle.std.specs.Option.{option_map};
 ghost use Rattle.face_builder.specs.SideFill.{half_edges_of_each};
 ghost use Rattle.face_builder.specs.MapRules.{AreFaces};
+ghost use Rattle.face_builder.specs.Round.{AreRoundsOf};
 ghost use Rattle.face_builder.specs.View.{corners_at};
 ghost use Rattle.face_builder.specs.Faces.{faces_among, convex_refusal, size_refusal, map_among, face_refusal, face_map_of, IsFaceMap, IsFaceFault};
 ghost use Rattle.face_builder.specs.declared.faults.FaceFault.TheVariants.{NotConvex};
@@ -127,6 +128,7 @@ fn map_among(alloc: Global, faces: &[Vec<HalfEdge>], pieces: &[Piece]) -> Result
 #[tactic(auto, unfolding(crate::specs::Faces::face_refusal, crate::specs::Faces::face_map_of))]
 pub fn faces(alloc: Global, pattern: &Pattern) -> Result<FaceMap, FaceFault>
     ensures rules { IfOk result (λ m. AreFaces m) }
+    ensures partition { IfOk result (λ m. AreRoundsOf pattern.now m) }
     ensures exact { MatchResult result (λ m. IsFaceMap m pattern.now)
         (λ fault. IsFaceFault fault (face_refusal pattern.now)) }
 {
@@ -155,14 +157,16 @@ impl FaceMap {
 
     /// The pieces, with the faces that share them.
     pub fn shared(&self) -> &[SharedPiece]
-        ensures { result.now ≡ self.now.shared }
+        ensures value { result.now ≡ self.now.shared }
+        ensures rules { AreFaces self.now }
     {
         self.shared.as_slice()
     }
 
     /// The faces that are reached from face 1, in the order in which they are reached, without face 1.
     pub fn walk(&self) -> &[Step]
-        ensures { result.now ≡ self.now.walk }
+        ensures value { result.now ≡ self.now.walk }
+        ensures rules { AreFaces self.now }
     {
         self.walk.as_slice()
     }

@@ -1,12 +1,24 @@
-use Rattle.std.proofs.Common.{◌≡◌, List, None, sym, ap, ap₂, subst, ◌∙◌}
+use Rattle.std.proofs.Common.{rules, Ok, Err, ◌≡◌, List, None, sym, ap, ap₂, subst, ◌∙◌}
 use Rattle.crease_model.specs.declared.Piece.{Piece}
 use Rattle.face_builder.specs.declared.half_edges.HalfEdge.{HalfEdge}
 use Rattle.face_builder.specs.HalfEdge.{half_edges_of}
 use Rattle.face_builder.specs.Faces.{faces_among, convex_refusal, size_refusal, map_among}
 use Rattle.face_builder.specs.MapRules.{AreFaces}
 use Rattle.face_builder.specs.SideFill.{half_edges_of_each}
+use Rattle.face_builder.specs.Faces.{face_refusal, face_map_of, IsFaceMap, IsFaceFault}
+use Rattle.face_builder.specs.Round.{AreRoundsOf}
+use Rattle.face_builder.specs.View.{FaceMapView}
+use Rattle.face_builder.specs.declared.faults.FaceFault.{FaceFault}
+use Rattle.crease_model.specs.View.{PatternView}
+use Rattle.std.specs.Prelude.{IfOk, MatchResult}
+use Rattle.std.specs.declared.result.Result.{Result}
+use Rattle.face_builder.proofs.RoundLaws.{map_rounds}
 use Rattle.face_builder.proofs.MapLaws.{map_rules}
 use Rattle.face_builder.proofs.faces.Goals as goal
+
+pub returns-clause-exact : goal.returns-clause-exact
+unfolding face_refusal face_map_of
+returns-clause-exact c = search rules
 
 pub map_among-requires-clause-rules : goal.map_among-requires-clause-rules
 map_among-requires-clause-rules c = λ size.
@@ -23,3 +35,19 @@ map_among-requires-clause-rules c = λ size.
     subst (λ (fs : List (List HalfEdge)). AreFaces (map_among fs c.pieces.result.now)) (sym faces)
     (subst (λ (ps : List Piece). AreFaces (map_among (faces_among (half_edges_of pattern)) ps)) (sym pieces)
     (map_rules pattern c.sheet.ensures.rules c.pieces.ensures.rules convex few))
+
+-- what holds of the pattern's map holds of what is made
+if_map : (pattern : PatternView) (result : Result FaceMapView FaceFault) (P : FaceMapView → Type 0)
+    → P (face_map_of pattern)
+    → MatchResult result (λ m. IsFaceMap m pattern) (λ fault. IsFaceFault fault (face_refusal pattern))
+    → IfOk result P
+if_map pattern (Ok m) P holds exact = subst P (sym exact.1) holds
+if_map pattern (Err e) P holds exact = tt
+
+pub returns-clause-partition : goal.returns-clause-partition
+returns-clause-partition c =
+    let exact : MatchResult c.map_among.result (λ m. IsFaceMap m c.args.pattern.now)
+    (λ fault. IsFaceFault fault (face_refusal c.args.pattern.now)) =
+    returns-clause-exact c in
+    if_map c.args.pattern.now c.map_among.result (λ m. AreRoundsOf c.args.pattern.now m)
+    (map_rounds c.args.pattern.now c.sheet.ensures.rules c.pieces.ensures.rules) exact
