@@ -23,3 +23,4 @@ pub mod OwnPieces
 pub mod OwnLines
 mod InOneWalk
 mod OwnCuts
+mod ThereAlready
