@@ -62,6 +62,28 @@ threads() {
     ../crates/bench_board/out/bench_board "$1" histories | "$folder/board" || exit 1
 }
 
+# editing NAME ROUNDS: a measure of the proved program crates/bench_editing beside editing.rs.
+editing() {
+    local proved="../crates/bench_editing/out/bench_editing $1" plain="$folder/editing $1"
+    echo "== editing, $1, $2 rounds"
+    if [ "$($proved 1)" != "$($plain 1)" ]; then
+        echo "the checksums differ"
+        exit 1
+    fi
+    race /dev/null "$proved $2" "$plain $2" | awk '{
+        printf "proved     %s s\nplain Rust %s s\nratio      %.2f\n", $1, $2, $1 / $2 }'
+}
+
+# The four measures of editing.
+all_editing() {
+    (cd ../crates/bench_editing && rt run -- pieces 1) >"$folder/log" 2>&1 || { cat "$folder/log"; exit 1; }
+    rustc -O --edition 2024 -o "$folder/editing" editing.rs || exit 1
+    editing crossing 200
+    editing lines 1
+    editing check 100
+    editing pieces 10
+}
+
 # script KIND: about four million bytes of lines that are read whole and refused. Those of the kind zerolength end where
 # they begin; those of the kind onborder lie within a side of the sheet, so their directions and sides are found too.
 script() {
@@ -89,6 +111,7 @@ text() {
 
 beside numbers "$rounds"
 beside regions "$region_rounds"
+all_editing
 threads "$board_runs"
 if [ -x "$editor" ]; then
     text zerolength
