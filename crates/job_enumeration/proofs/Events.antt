@@ -151,7 +151,7 @@ showing j order e =
           ∙ ap with (first.at.set (record s.0 { end = reopened_end s.0.end }));
     }
 
-reached-shown : (r : RulesView) (lists : List (List Sign)) (j : JobView) (order : OrderView)
+pub reached-shown : (r : RulesView) (lists : List (List Sign)) (j : JobView) (order : OrderView)
     → IsShowing j order
     → IsReached r lists j → IsReached r lists (after_answer j (Showing order))
 reached-shown r lists j order s reached =
@@ -160,9 +160,9 @@ reached-shown r lists j order s reached =
     subst (IsReached r lists) (sym s.is) (record {
       rules = reached.rules;
       prefixes = prefixes-replaced at.front at.back s.piece new refl ∙ ap prefixes_of (sym at.parts)
-      ∙ reached.prefixes;
+          ∙ reached.prefixes;
       kept = each-replaced (IsKept j.ask) (IsKept None) at.front at.back s.piece new
-      (λ d k. kept-closed j.ask d k)
+          (λ d k. kept-closed j.ask d k)
           (λ k. kept-reopened j.ask s.piece k) (subst (Each (IsKept j.ask)) at.parts reached.kept);
     })
 

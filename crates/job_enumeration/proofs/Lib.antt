@@ -3,3 +3,7 @@ pub mod Steps
 pub mod Kept
 pub mod Events
 pub mod Shown
+pub mod Places
+pub mod Rooms
+pub mod Pauses
+pub mod Between

@@ -55,7 +55,7 @@ parted-map : (f : List Sign → List Sign) → ((p s : List Sign) → IsAhead p 
 parted-map f keeps [] h = tt
 parted-map f keeps (x ∷ xs) h = (
   each_mapped (IsAhead (f x)) f xs (each_map (IsAhead x) (λ s. IsAhead (f x) (f s))
-  (λ s k. keeps x s k) xs h.0),
+      (λ s k. keeps x s k) xs h.0),
   parted-map f keeps xs h.1,
 )
 
@@ -99,7 +99,7 @@ begins-itself [] = refl
 begins-itself (Over ∷ s) = begins-itself s
 begins-itself (Under ∷ s) = begins-itself s
 
-not_before-itself : (s : List Sign) → list_before s s ≡ false
+pub not_before-itself : (s : List Sign) → list_before s s ≡ false
 not_before-itself [] = refl
 not_before-itself (Over ∷ s) = not_before-itself s
 not_before-itself (Under ∷ s) = not_before-itself s

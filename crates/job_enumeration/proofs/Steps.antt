@@ -116,7 +116,7 @@ first_piece ps p found =
       at = piece_place ps (done_before ps) p found;
       finished = finished_front ps (done_before ps) (omega arith);
       unfinished = ap (λ (x : Piece). is_finished x.end) (sym (get_or_from_slice_get ps
-      (done_before ps) p p found))
+          (done_before ps) p p found))
           ∙ prefix_len_stops (λ (x : Piece). is_finished x.end) ps p below;
     }
 

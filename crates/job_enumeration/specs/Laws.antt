@@ -9,4 +9,4 @@ use Rattle.job_enumeration.specs.Enumeration.{IsEnumeration}
 abbrev pub LegalRecordsEnumerate : Type 0
 LegalRecordsEnumerate =
     (job version : ℕ) (r : RulesView) (most : ℕ) (es : List JobEvent) → IsJobRecord job version r most es
-    → IsEnumeration r (closings es)
+    → IsEnumeration r most (closings es)
