@@ -1,4 +1,5 @@
 pub mod Record
+pub mod RecordLaws
 pub mod Closings
 pub mod Enumeration
 pub mod Laws

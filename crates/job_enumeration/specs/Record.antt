@@ -21,6 +21,11 @@ after_event j (Post x true) = posted j x
 after_event j (Post x false) = j
 after_event j (Answer answer) = after_answer j answer
 
+-- the job after some events
+abbrev pub job_after : JobView → List JobEvent → JobView
+job_after j [] = j
+job_after j (e ∷ es) = job_after (after_event j e) es
+
 -- the outcome is right for the last task of its piece
 abbrev pub IsRightPost : JobView → Outcome → Type 0
 IsRightPost j x =

@@ -1,6 +1,11 @@
-ghost use Rattle.job_enumeration.specs.Laws.{LegalRecordsEnumerate};
+ghost use Rattle.job_enumeration.specs.Laws.{LegalRecordsEnumerate, RecordsGrow};
 
 /// Every legal record of a job enumerates the orders of its rules.
 pub fn legal_records_enumerate()
     ensures { LegalRecordsEnumerate }
+{}
+
+/// A legal record stays legal by just the events that are legal for the job that it leads to.
+pub fn records_grow()
+    ensures { RecordsGrow }
 {}
