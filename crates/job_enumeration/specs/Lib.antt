@@ -3,3 +3,4 @@ pub mod RecordLaws
 pub mod Closings
 pub mod Enumeration
 pub mod Laws
+pub mod Rows
