@@ -17,6 +17,7 @@ mod Nexts
 mod Ordered
 mod Partition
 mod Polygons
+mod Refusals
 mod RoundLaws
 mod Rounds
 mod SharedLaws

@@ -1,8 +1,9 @@
 -- The numbered faces of a pattern, or why it has none. A face is the list of its half-edges, from the least
 -- one on.
-use Rattle.std.specs.Prelude.{◌≡◌, ℕ, Bool, not, List, [], ◌∷◌, length, map, find, nat_lt, nat_eq, Option, None, Some, slice_get, slice_index_or, ⊤, if◌then◌else◌}
+use Rattle.std.specs.Prelude.{◌≡◌, ◌≢◌, ◌≤◌, ◌<◌, ℕ, Bool, not, List, [], ◌∷◌, length, map, find, nat_lt, nat_eq, Option, None, Some, Err, slice_get, slice_index_or, ⊤, if◌then◌else◌}
 use Rattle.std.specs.List.{flat_map, sum}
 use Rattle.std.specs.Option.{option_map, option_or}
+use Rattle.std.specs.declared.result.Result.{Result}
 use Rattle.plane_geometry.specs.declared.Point.{Point}
 use Rattle.plane_geometry.specs.declared.Dir.{Dir}
 use Rattle.plane_geometry.specs.DirView.{dir_number}
@@ -102,8 +103,7 @@ map_among faces pieces =
     record {
       faces = map corners_of faces;
       shared = shared_from faces 1 pieces;
-      walk =
-          walk_among faces pieces;
+      walk = walk_among faces pieces;
     }
 
 -- there are too many, or one is not reached
@@ -119,7 +119,33 @@ unfoldable pub face_refusal : PatternView → Option Refusal
 face_refusal p =
     option_or (convex_refusal (half_edges_of p)) (size_refusal (faces_among (half_edges_of p)) p.pieces)
 
+-- ---- causes
+
+-- the least half-edge at which a face is not convex leaves this point in this direction
+abbrev pub IsNotConvexAt : PatternView → Point → Dir → Type 0
+IsNotConvexAt p at direction =
+    (h : HalfEdge) × (bad_half_edge (half_edges_of p) ≡ Some h) × (h.start ≡ at) × (h.dir ≡ direction)
+
+-- each face is convex, and there are too many
+abbrev pub AreTooMany : PatternView → ℕ → Type 0
+AreTooMany p count =
+    (bad_half_edge (half_edges_of p) ≡ None)
+    × (count ≡ length (faces_among (half_edges_of p))) × (most_faces < count)
+
+-- each face is convex, they are not too many, and this is the least one that the walk does not reach
+abbrev pub IsUnreached : PatternView → ℕ → Type 0
+IsUnreached p face =
+    (bad_half_edge (half_edges_of p) ≡ None)
+    × (length (faces_among (half_edges_of p)) ≤ most_faces)
+    × (first_unreached (walk_among (faces_among (half_edges_of p)) p.pieces) 1
+    (length (faces_among (half_edges_of p)))
+    ≡ Some face)
+
 -- ---- answers
+
+-- memory did not run out
+abbrev pub HasMemory : Result FaceMapView FaceFault → Type 0
+HasMemory result = result ≢ Err Memory
 
 -- the map that was made is the pattern's, and there is no refusal
 abbrev pub IsFaceMap : FaceMapView → PatternView → Type 0

@@ -1,14 +1,16 @@
 //! The faces of a crease pattern.
 #![tactic(auto)]
 
-ghost use Rattle.std.specs.Prelude.{◌≡◌, ◌<◌, length, None, MatchResult, IfOk};
+ghost use Rattle.std.specs.Prelude.{◌≡◌, ◌↔◌, ℕ, ◌<◌, length, None, MatchResult, IfOk, IsErrOf};
 ghost use Rattle.std.specs.Option.{option_map};
 ghost use Rattle.face_builder.specs.SideFill.{half_edges_of_each};
 ghost use Rattle.face_builder.specs.MapRules.{AreFaces};
 ghost use Rattle.face_builder.specs.Round.{AreRoundsOf};
 ghost use Rattle.face_builder.specs.View.{corners_at};
-ghost use Rattle.face_builder.specs.Faces.{faces_among, convex_refusal, size_refusal, map_among, face_refusal, face_map_of, IsFaceMap, IsFaceFault};
-ghost use Rattle.face_builder.specs.declared.faults.FaceFault.TheVariants.{NotConvex};
+ghost use Rattle.face_builder.specs.Faces.{faces_among, convex_refusal, size_refusal, map_among, face_refusal, face_map_of, IsNotConvexAt, AreTooMany, IsUnreached, HasMemory, IsFaceMap, IsFaceFault};
+ghost use Rattle.face_builder.specs.declared.faults.FaceFault.TheVariants.{NotConvex, TooManyFaces, Unreached};
+ghost use Rattle.plane_geometry.specs.declared.Point.{Point};
+ghost use Rattle.plane_geometry.specs.declared.Dir.{Dir};
 
 mod convexity;
 mod cycles;
@@ -124,12 +126,10 @@ fn map_among(alloc: Global, faces: &[Vec<HalfEdge>], pieces: &[Piece]) -> Result
     }
 }
 
-/// The faces of a pattern.
+// The map of a pattern.
 #[tactic(auto, unfolding(crate::specs::Faces::face_refusal, crate::specs::Faces::face_map_of))]
-pub fn faces(alloc: Global, pattern: &Pattern) -> Result<FaceMap, FaceFault>
-    ensures rules { IfOk result (λ m. AreFaces m) }
-    ensures partition { IfOk result (λ m. AreRoundsOf pattern.now m) }
-    ensures exact { MatchResult result (λ m. IsFaceMap m pattern.now)
+fn map_of(alloc: Global, pattern: &Pattern) -> Result<FaceMap, FaceFault>
+    ensures { MatchResult result (λ m. IsFaceMap m pattern.now)
         (λ fault. IsFaceFault fault (face_refusal pattern.now)) }
 {
     // tells the rules of the sheet
@@ -137,6 +137,25 @@ pub fn faces(alloc: Global, pattern: &Pattern) -> Result<FaceMap, FaceFault>
     let half_edges = half_edges_of(alloc, pattern)?;
     let faces = convex_faces(alloc, half_edges.as_slice())?;
     map_among(alloc, faces.as_slice(), pattern.pieces())
+}
+
+/// The faces of a pattern.
+pub fn faces(alloc: Global, pattern: &Pattern) -> Result<FaceMap, FaceFault>
+    ensures rules { IfOk result (λ m. AreFaces m) }
+    ensures partition { IfOk result (λ m. AreRoundsOf pattern.now m) }
+    ensures not_convex { (at : Point) (direction : Dir) → IsErrOf result (NotConvex at direction)
+        ↔ (HasMemory result × IsNotConvexAt pattern.now at direction) }
+    ensures too_many { (n : ℕ) → IsErrOf result (TooManyFaces n)
+        ↔ (HasMemory result × AreTooMany pattern.now n) }
+    ensures unreached { (face : ℕ) → IsErrOf result (Unreached face)
+        ↔ (HasMemory result × IsUnreached pattern.now face) }
+    ensures exact { MatchResult result (λ m. IsFaceMap m pattern.now)
+        (λ fault. IsFaceFault fault (face_refusal pattern.now)) }
+{
+    // tells the rules of the sheet and of the pieces
+    let _ = pattern.sheet();
+    let _ = pattern.pieces();
+    map_of(alloc, pattern)
 }
 
 impl FaceMap {

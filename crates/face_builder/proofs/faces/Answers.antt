@@ -1,10 +1,4 @@
-use Rattle.std.proofs.Common.{rules, Ok, Err, ◌≡◌, List, None, sym, ap, ap₂, subst, ◌∙◌}
-use Rattle.crease_model.specs.declared.Piece.{Piece}
-use Rattle.face_builder.specs.declared.half_edges.HalfEdge.{HalfEdge}
-use Rattle.face_builder.specs.HalfEdge.{half_edges_of}
-use Rattle.face_builder.specs.Faces.{faces_among, convex_refusal, size_refusal, map_among}
-use Rattle.face_builder.specs.MapRules.{AreFaces}
-use Rattle.face_builder.specs.SideFill.{half_edges_of_each}
+use Rattle.std.proofs.Common.{Ok, Err, sym, subst}
 use Rattle.face_builder.specs.Faces.{face_refusal, face_map_of, IsFaceMap, IsFaceFault}
 use Rattle.face_builder.specs.Round.{AreRoundsOf}
 use Rattle.face_builder.specs.View.{FaceMapView}
@@ -12,29 +6,9 @@ use Rattle.face_builder.specs.declared.faults.FaceFault.{FaceFault}
 use Rattle.crease_model.specs.View.{PatternView}
 use Rattle.std.specs.Prelude.{IfOk, MatchResult}
 use Rattle.std.specs.declared.result.Result.{Result}
+use Rattle.face_builder.proofs.Refusals.{not_convex_where, too_many_where, unreached_where}
 use Rattle.face_builder.proofs.RoundLaws.{map_rounds}
-use Rattle.face_builder.proofs.MapLaws.{map_rules}
 use Rattle.face_builder.proofs.faces.Goals as goal
-
-pub returns-clause-exact : goal.returns-clause-exact
-unfolding face_refusal face_map_of
-returns-clause-exact c = search rules
-
-pub map_among-requires-clause-rules : goal.map_among-requires-clause-rules
-map_among-requires-clause-rules c = λ size.
-    let pattern = c.args.pattern.now in
-    let hs : c.as_slice.result.now ≡ half_edges_of pattern = c.as_slice.ensures.value
-    ∙ c.in_ok-half_edges.ensures.value in
-    let faces : half_edges_of_each c.as_slice-2.result.now ≡ faces_among (half_edges_of pattern) =
-    ap half_edges_of_each c.as_slice-2.ensures.value ∙ c.in_ok-faces.ensures.value.1 ∙ ap faces_among hs in
-    let pieces : c.pieces.result.now ≡ pattern.pieces = c.pieces.ensures.value in
-    let convex : convex_refusal (half_edges_of pattern) ≡ None = sym (ap convex_refusal hs)
-    ∙ c.in_ok-faces.ensures.value.0 in
-    let few : size_refusal (faces_among (half_edges_of pattern)) pattern.pieces ≡ None =
-    sym (ap₂ size_refusal faces pieces) ∙ size in
-    subst (λ (fs : List (List HalfEdge)). AreFaces (map_among fs c.pieces.result.now)) (sym faces)
-    (subst (λ (ps : List Piece). AreFaces (map_among (faces_among (half_edges_of pattern)) ps)) (sym pieces)
-    (map_rules pattern c.sheet.ensures.rules c.pieces.ensures.rules convex few))
 
 -- what holds of the pattern's map holds of what is made
 if_map : (pattern : PatternView) (result : Result FaceMapView FaceFault) (P : FaceMapView → Type 0)
@@ -46,8 +20,14 @@ if_map pattern (Err e) P holds exact = tt
 
 pub returns-clause-partition : goal.returns-clause-partition
 returns-clause-partition c =
-    let exact : MatchResult c.map_among.result (λ m. IsFaceMap m c.args.pattern.now)
-    (λ fault. IsFaceFault fault (face_refusal c.args.pattern.now)) =
-    returns-clause-exact c in
-    if_map c.args.pattern.now c.map_among.result (λ m. AreRoundsOf c.args.pattern.now m)
-    (map_rounds c.args.pattern.now c.sheet.ensures.rules c.pieces.ensures.rules) exact
+    if_map c.args.pattern.now c.map_of.result (λ m. AreRoundsOf c.args.pattern.now m)
+    (map_rounds c.args.pattern.now c.sheet.ensures.rules c.pieces.ensures.rules) c.map_of.ensures
+
+pub returns-clause-not_convex : goal.returns-clause-not_convex
+returns-clause-not_convex c = not_convex_where c.args.pattern.now c.map_of.result c.map_of.ensures
+
+pub returns-clause-too_many : goal.returns-clause-too_many
+returns-clause-too_many c = too_many_where c.args.pattern.now c.map_of.result c.map_of.ensures
+
+pub returns-clause-unreached : goal.returns-clause-unreached
+returns-clause-unreached c = unreached_where c.args.pattern.now c.map_of.result c.map_of.ensures
