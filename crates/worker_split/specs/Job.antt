@@ -58,14 +58,16 @@ abbrev pub asked_piece : ℕ → Piece → Piece
 asked_piece budget p = record p { last = asked_end budget p.end p.last }
 
 abbrev pub asked : JobView → ℕ → JobView
-asked j budget = if is_some j.ask then j else record j { pieces = map (asked_piece budget) j.pieces; ask = Some budget }
+asked j budget =
+    if is_some j.ask then j else record j { pieces = map (asked_piece budget) j.pieces; ask = Some budget }
 
 -- ---- task: what an open piece has still to answer in the open ask
 
 abbrev pub piece_at : JobView → ℕ → Option Piece
 piece_at j piece = if piece == 0 then None else slice_get j.pieces (piece - 1)
 
--- the task of a piece with this budget. An unanswered task begins at the kept position, which only its answer moves.
+-- the task of a piece with this budget. An unanswered task begins at the kept position, which only its answer
+-- moves
 abbrev pub task_with : JobView → ℕ → Piece → ℕ → TaskView
 task_with j piece p budget = record {
   job = j.job;
@@ -121,7 +123,8 @@ task_told j p x = record {
 -- where the outcome names the job and a piece of it, its end is right for the task that it names
 abbrev pub IsRightFor : JobView → Outcome → Type 0
 IsRightFor j x =
-    (p : Piece) → piece_at j x.piece ≡ Some p → x.job ≡ j.job → x.version ≡ j.version → IsRightEnd (task_told j p x) x.end
+    (p : Piece) → piece_at j x.piece ≡ Some p → x.job ≡ j.job → x.version ≡ j.version
+    → IsRightEnd (task_told j p x) x.end
 
 -- the outcome is right where it names the last task of its piece, unanswered so far
 abbrev pub IsRightWhereNamed : JobView → Outcome → Type 0
@@ -131,24 +134,36 @@ IsRightWhereNamed j x = (p : Piece) → piece_at j x.piece ≡ Some p → NamesT
 abbrev pub answered_piece : Piece → ℕ → End → Piece
 answered_piece p budget (Found order position) =
     record { prefix = p.prefix; kept = position; end = Ready order; last = Answered budget }
-answered_piece p budget Done = record { prefix = p.prefix; kept = p.kept; end = Finished; last = Answered budget }
-answered_piece p budget (Paused position) = record { prefix = p.prefix; kept = position; end = p.end; last = Answered budget }
+answered_piece p budget Done =
+    record { prefix = p.prefix; kept = p.kept; end = Finished; last = Answered budget }
+answered_piece p budget (Paused position) =
+    record { prefix = p.prefix; kept = position; end = p.end; last = Answered budget }
 
 abbrev pub posted_to : JobView → Outcome → Option Piece → JobView
 posted_to j x None = j
-posted_to j x (Some p) = record j { pieces = slice_set j.pieces (x.piece - 1) (answered_piece p x.budget x.end) }
+posted_to j x (Some p) =
+    record j { pieces = slice_set j.pieces (x.piece - 1) (answered_piece p x.budget x.end) }
 
 abbrev pub posted : JobView → Outcome → JobView
 posted j x = posted_to j x (piece_at j x.piece)
 
--- what a job knows of a piece: 0 stands for a piece that there is not, and for the budget where it never had a task
+-- what a job knows of a piece whose last task has this budget
+abbrev pub known_with : JobView → ℕ → ℕ → Bool → Kept
+known_with j piece budget answered = record {
+  job = j.job;
+  version = j.version;
+  piece = piece;
+  pieces = length j.pieces;
+  budget = budget;
+  answered = answered;
+}
+
+-- what a job knows of a piece: 0 stands for a piece that there is not, and for the budget where it never had a
+-- task
 abbrev pub kept_with : JobView → ℕ → LastTask → Kept
-kept_with j piece Never =
-    record { job = j.job; version = j.version; piece = piece; pieces = length j.pieces; budget = 0; answered = false }
-kept_with j piece (Asked budget) =
-    record { job = j.job; version = j.version; piece = piece; pieces = length j.pieces; budget = budget; answered = false }
-kept_with j piece (Answered budget) =
-    record { job = j.job; version = j.version; piece = piece; pieces = length j.pieces; budget = budget; answered = true }
+kept_with j piece Never = known_with j piece 0 false
+kept_with j piece (Asked budget) = known_with j piece budget false
+kept_with j piece (Answered budget) = known_with j piece budget true
 
 abbrev pub kept_from : JobView → ℕ → Option Piece → Kept
 kept_from j piece None = kept_with j 0 Never
@@ -160,7 +175,8 @@ kept_of j piece = kept_from j piece (piece_at j piece)
 -- an outcome is accepted where it matches; any other is a stranger and changes nothing
 abbrev pub IsTaken : JobView → Outcome → Taken → JobView → Type 0
 IsTaken old x Accepted new = Matches old x × (new ≡ posted old x)
-IsTaken old x (Stranger kept came) new = (¬ Matches old x) × (kept ≡ kept_of old x.piece) × (came ≡ x) × (new ≡ old)
+IsTaken old x (Stranger kept came) new =
+    (¬ Matches old x) × (kept ≡ kept_of old x.piece) × (came ≡ x) × (new ≡ old)
 
 -- ---- answer: by the first piece that is not done
 

@@ -30,7 +30,13 @@ impl Model for JobState {
 
     ghost Value = { JobView };
 
-    ghost view = { λ j. record { job = j.job; version = j.version; rules = arc_value j.rules; pieces = j.pieces.items; ask = j.ask } };
+    ghost view = { λ j. record {
+      job = j.job;
+      version = j.version;
+      rules = arc_value j.rules;
+      pieces = j.pieces.items;
+      ask = j.ask;
+    } };
 
     ghost invariant = { λ j. IsJob (arc_value j.rules) j.pieces.items };
 }
@@ -131,7 +137,8 @@ impl JobState {
         Taken::Accepted
     }
 
-    /// What the open ask came to, by the first piece that is not done. Each answer but NotReady closes the ask.
+    /// What the open ask came to, by the first piece that is not done. Each answer but NotReady closes
+    /// the ask.
     pub fn answer(&mut self) -> JobAnswer
         requires { IsSome self.old.ask }
         ensures answer { result ≡ next_answer self.old }
@@ -192,7 +199,8 @@ impl JobState {
 
     /// The position from which a piece goes on.
     pub fn kept_position(&self, piece: u32) -> Option<&Position>
-        ensures { MatchOption result (piece_at self.now piece ≡ None) (λ position. option_map (λ (p : Piece). p.kept) (piece_at self.now piece) ≡ Some position.now) }
+        ensures { MatchOption result (piece_at self.now piece ≡ None)
+            (λ position. option_map (λ (p : Piece). p.kept) (piece_at self.now piece) ≡ Some position.now) }
     {
         match self.piece(piece) {
             Some(known) => Some(&known.kept),
@@ -201,7 +209,8 @@ impl JobState {
     }
 
     fn piece(&self, piece: u32) -> Option<&Piece>
-        ensures { MatchOption result (piece_at self.now piece ≡ None) (λ p. piece_at self.now piece ≡ Some p.now) }
+        ensures { MatchOption result (piece_at self.now piece ≡ None)
+            (λ p. piece_at self.now piece ≡ Some p.now) }
     {
         if piece == 0 {
             return None;

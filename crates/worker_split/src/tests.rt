@@ -6,7 +6,8 @@ use std::process::Abort;
 use std::sync::Arc;
 use std::test::Fail;
 
-// The rules of three parallel mountains, which part a square into four strips of one width, and their three orders.
+// The rules of three parallel mountains, which part a square into four strips of one width, and their three
+// orders.
 const STRIPS: [Rule; 8] = [
     Rule::Fixed { p: 0, sign: Over },
     Rule::Fixed { p: 3, sign: Under },
@@ -84,7 +85,7 @@ fn copied_end(end: &End) -> Result<End, AllocError> {
     }
 }
 
-/// Performs the task of the first piece, where it has one, and posts a copy of its outcome, which is accepted.
+/// Performs the task of the first piece, where it has one, and posts its outcome. A copy, where that is accepted.
 fn performed(alloc: Global, job: &mut JobState) -> Result<Option<Outcome>, AllocError> {
     let Some(task) = job.task(1)? else {
         return Ok(None);
@@ -220,12 +221,13 @@ fn has_name(signs: &[Sign], name: &str) -> bool {
     signs.len() == bytes.len()
 }
 
-// Steps, and what each comes to: `a` asks with the budget 16 and a digit with that one; `p` performs the task and posts
-// its outcome; `r` posts the last outcome again and `f` the first one; `w` asks what it came to.
+// Steps, and what each comes to: `a` asks with the budget 16 and a digit with that one; `p` performs the task
+// and posts its outcome; `r` posts the last outcome again and `f` the first one; `w` asks what it came to.
 const SEQUENCES: [(&str, &str); 7] = [
     (
-        "apwapwapwapwapw",
-        "asked taken +++--+ asked taken +-+-++ asked taken +----+ asked taken nomore asked none nomore",
+        "apwapwapwapwrapwf",
+        "asked taken +++--+ asked taken +-+-++ asked taken +----+ asked taken nomore stranger asked \
+         none nomore stranger",
     ),
     (
         "awpwapraw",
