@@ -13,7 +13,8 @@ use Rattle.layer_rules.specs.Faces.{is_inside_face, IsInside, Overlap}
 use Rattle.layer_rules.specs.Insides.{AreInsides}
 
 at_place : (faces : List FoldedFace) (insides : List Region) (n : ℕ) (region : Region)
-    → AreInsides faces insides → n < length insides → region ≡ slice_index_or insides n region → (p : Position)
+    → AreInsides faces insides → n < length insides → region ≡ slice_index_or insides n region
+    → (p : Position)
     → IsInRegion p region ↔ IsSomeAnd (slice_get faces n) (λ face. IsTrue (is_inside_face p face))
 at_place faces [] n region h below e p = absurd (omega arith)
 at_place [] (r ∷ rs) n region h below e p = absurd h

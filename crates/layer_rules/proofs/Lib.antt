@@ -3,3 +3,6 @@ mod PairLists
 mod InsideRegions
 mod Convexity
 mod Refusals
+mod SignPlaces
+mod FixedRuleLists
+mod FixedRulesOn

@@ -1,6 +1,6 @@
 -- The faces of a folded shape, numbered from 1, and what they have in common.
 use Rattle.std.specs.Prelude.{ℕ, zero, suc, Bool, ◌&&◌, ◌||◌, ◌==◌, List, Option, None, IsTrue}
-use Rattle.std.specs.Option.{IsSomeAnd}
+use Rattle.std.specs.Option.{IsSomeAnd, option_map}
 use Rattle.std.specs.List.{slice_get, list_any}
 use Rattle.plane_geometry.specs.Position.{Position}
 use Rattle.plane_geometry.specs.Polygon.{is_in_polygon}
@@ -20,6 +20,10 @@ is_inside_face p face = is_in_polygon (counterclockwise face.turned face.corners
 -- strictly inside the folded face of this number
 abbrev pub IsInside : FoldedView → ℕ → Position → Type 0
 IsInside shape f p = IsSomeAnd (numbered shape.faces f) (λ face. IsTrue (is_inside_face p face))
+
+-- whether the face of this number is turned, if it is there
+abbrev pub turned_at : List FoldedFace → ℕ → Option Bool
+turned_at faces f = option_map (λ face. face.turned) (numbered faces f)
 
 -- some point of the plane is strictly inside both folded faces
 abbrev pub Overlap : FoldedView → ℕ → ℕ → Type 0

@@ -1,5 +1,9 @@
 pub mod Faces
 pub mod FacePairs
 pub mod Answer
+pub mod Above
+pub mod CreaseCondition
+pub mod RuleLists
 pub mod Insides
 pub mod Candidates
+pub mod FixedRules

@@ -136,5 +136,12 @@ fn meets(folded: &Folded, insides: &[Region], pair: &FacePair) -> bool
 fn have_a_piece(creases: &[CreaseImage], pair: &FacePair) -> bool
     ensures { result ≡ list_any (is_shared_by pair.now.i pair.now.j) creases.now }
 {
-    creases.iter().any(|c| (c.a == pair.i && c.b == pair.j) || (c.a == pair.j && c.b == pair.i))
+    creases.iter().any(|crease| is_shared(crease, pair))
+}
+
+/// Whether the crease has the two faces on its sides.
+pub(crate) fn is_shared(crease: &CreaseImage, pair: &FacePair) -> bool
+    ensures { result ≡ is_shared_by pair.now.i pair.now.j crease.now }
+{
+    (crease.a == pair.i && crease.b == pair.j) || (crease.a == pair.j && crease.b == pair.i)
 }

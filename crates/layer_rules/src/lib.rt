@@ -1,6 +1,7 @@
 //! Which folded faces lie on one another, and the rules that any order of these layers has to meet.
 #![tactic(auto)]
 
+mod creases;
 mod face_pairs;
 mod regions;
 #[cfg(test)]
@@ -8,4 +9,5 @@ mod shapes;
 #[cfg(test)]
 mod tests;
 
+pub use creases::crease_rules;
 pub use face_pairs::{FacePair, PairsFault, pairs};

@@ -9,6 +9,7 @@ ghost use Rattle.isometry_map.specs.Folded.{is_convex_face};
 use crease_model::Kind;
 use isometry_map::{CreaseImage, Folded, FoldedFace, PointList};
 use plane_geometry::{Dir, Point, Segment, direction, next_corner};
+use sign_rules::Sign;
 use std::alloc::{AllocError, Global};
 use std::test::Fail;
 use surd_number::{OutOfRange, Surd};
@@ -21,13 +22,14 @@ pub(crate) type Place = (Parts, Parts);
 /// A crease piece: its number, its faces and the ends of its image.
 pub(crate) type Crease = (u32, u32, u32, Place, Place);
 
-/// A folded shape, the kinds of its pieces, and its pairs.
+/// A folded shape, the kinds of its pieces, its pairs, and the signs that its creases give these.
 #[derive(Clone, Copy)]
 pub(crate) struct Row {
     pub faces: &'static [(bool, &'static [Place])],
     pub creases: &'static [Crease],
     pub kinds: &'static [Kind],
     pub pairs: &'static [(u32, u32)],
+    pub fixed: &'static [(u32, Sign)],
 }
 
 fn point(place: Place) -> Result<Point, OutOfRange> {

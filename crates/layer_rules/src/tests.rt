@@ -1,8 +1,10 @@
-//! Pairs of folded shapes, worked with exact fractions in another language.
+//! Pairs and rules of folded shapes, worked with exact fractions in another language.
 
 use crate::shapes::{Row, shape, stack};
-use crate::{FacePair, PairsFault, pairs};
+use crate::{FacePair, PairsFault, crease_rules, pairs};
 use crease_model::Kind::{Mountain, Valley};
+use sign_rules::Rule;
+use sign_rules::Sign::{self, Over, Under};
 use std::test::Fail;
 
 fn are_pairs(found: &[FacePair], wanted: &[(u32, u32)]) -> bool {
@@ -13,8 +15,17 @@ fn are_pairs(found: &[FacePair], wanted: &[(u32, u32)]) -> bool {
             .all(|(pair, row)| pair.i == row.0 && pair.j == row.1)
 }
 
+fn are_fixed(rules: &[Rule], wanted: &[(u32, Sign)]) -> bool {
+    rules.len() == wanted.len()
+        && rules.iter().zip(wanted).all(|(rule, row)| *rule
+            == Rule::Fixed {
+                p: row.0,
+                sign: row.1,
+            })
+}
+
 #[test]
-fn finds_the_pairs(rt: HostRuntime) -> Result<(), Fail> {
+fn finds_pairs_and_crease_rules(rt: HostRuntime) -> Result<(), Fail> {
     for row in [
         TOUCHING, STRIPS, CROSS, WATERBOMB, FAN_1, FAN_2, FAN_3, FAN_4,
     ] {
@@ -22,6 +33,8 @@ fn finds_the_pairs(rt: HostRuntime) -> Result<(), Fail> {
         if folded.faces().len() <= 65536 {
             let found = pairs(&rt, rt.alloc(), &folded)?;
             assert!(rt; are_pairs(found.as_slice(), row.pairs));
+            let rules = crease_rules(rt.alloc(), &folded, row.kinds, found.as_slice())?;
+            assert!(rt; are_fixed(rules.as_slice(), row.fixed));
         }
     }
     Ok(())
@@ -85,6 +98,7 @@ const TOUCHING: Row = Row {
     ],
     kinds: &[Valley, Valley],
     pairs: &[(1, 2), (2, 3)],
+    fixed: &[(0, Under), (1, Over)],
 };
 
 /// Three mountains that part the square into four strips of one width.
@@ -152,6 +166,7 @@ const STRIPS: Row = Row {
     ],
     kinds: &[Mountain, Mountain, Mountain],
     pairs: &[(1, 2), (1, 3), (1, 4), (2, 3), (2, 4), (3, 4)],
+    fixed: &[(0, Over), (3, Under), (5, Over)],
 };
 
 /// A cross of three mountains and a valley.
@@ -202,6 +217,7 @@ const CROSS: Row = Row {
     ],
     kinds: &[Mountain, Mountain, Mountain, Valley],
     pairs: &[(1, 2), (1, 3), (1, 4), (2, 3), (2, 4), (3, 4)],
+    fixed: &[(0, Over), (1, Over), (4, Under), (5, Over)],
 };
 
 /// The waterbomb base.
@@ -290,6 +306,14 @@ const WATERBOMB: Row = Row {
         (4, 6),
         (5, 6),
     ],
+    fixed: &[
+        (0, Under),
+        (4, Under),
+        (5, Under),
+        (7, Under),
+        (8, Over),
+        (10, Over),
+    ],
 };
 
 /// Creases in the directions 0, 7, 13, 14 at the middle.
@@ -351,6 +375,7 @@ const FAN_1: Row = Row {
     ],
     kinds: &[Mountain, Mountain, Valley, Valley],
     pairs: &[(1, 2), (1, 3), (1, 4), (2, 3), (2, 4), (3, 4)],
+    fixed: &[(0, Over), (1, Over), (4, Over), (5, Over)],
 };
 
 /// Creases in the directions 4, 7, 9, 14 at the middle.
@@ -412,6 +437,7 @@ const FAN_2: Row = Row {
     ],
     kinds: &[Mountain, Mountain, Mountain, Mountain],
     pairs: &[(1, 2), (1, 3), (1, 4), (2, 3), (2, 4), (3, 4)],
+    fixed: &[(0, Over), (2, Over), (3, Under), (5, Over)],
 };
 
 /// Creases in the directions 0, 1, 3, 6, 7, 9, 13, 15 at the middle.
@@ -562,6 +588,16 @@ const FAN_3: Row = Row {
         (6, 8),
         (7, 8),
     ],
+    fixed: &[
+        (0, Under),
+        (5, Over),
+        (7, Under),
+        (9, Under),
+        (11, Over),
+        (14, Over),
+        (16, Over),
+        (19, Under),
+    ],
 };
 
 /// Creases in the directions 1, 5, 10, 13, 14, 15 at the middle.
@@ -673,5 +709,13 @@ const FAN_4: Row = Row {
         (4, 5),
         (4, 6),
         (5, 6),
+    ],
+    fixed: &[
+        (0, Over),
+        (2, Under),
+        (5, Over),
+        (11, Under),
+        (12, Over),
+        (14, Over),
     ],
 };
