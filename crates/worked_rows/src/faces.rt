@@ -224,9 +224,12 @@ fn corner_of(line: &[u8]) -> Result<Point, LineFault> {
 fn sheet_of(alloc: Global, text: &[u8]) -> Result<Sheet, Fail> {
     let mut corners = Vec::new(alloc);
     let mut rest = text;
-    while let Some((line, later)) = next_line(rest) {
-        corners.push(corner_of(line)?)?;
-        rest = later;
+    // no text has more lines than bytes
+    for _ in 0..text.len() {
+        if let Some((line, later)) = next_line(rest) {
+            corners.push(corner_of(line)?)?;
+            rest = later;
+        }
     }
     if corners.len() < 3 || corners.len() > 16 {
         return Ok(Sheet::square(alloc)?);
@@ -237,10 +240,12 @@ fn sheet_of(alloc: Global, text: &[u8]) -> Result<Sheet, Fail> {
 fn pattern_of(alloc: Global, sheet: Sheet, text: &[u8]) -> Result<Pattern, Fail> {
     let mut pattern = Pattern::empty(sheet);
     let mut rest = text;
-    while let Some((line, later)) = next_line(rest) {
-        let crease = read_line(line)?;
-        pattern = add(alloc, &pattern, crease.kind, &crease.from, &crease.to)?;
-        rest = later;
+    for _ in 0..text.len() {
+        if let Some((line, later)) = next_line(rest) {
+            let crease = read_line(line)?;
+            pattern = add(alloc, &pattern, crease.kind, &crease.from, &crease.to)?;
+            rest = later;
+        }
     }
     Ok(pattern)
 }
