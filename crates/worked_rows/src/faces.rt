@@ -1,6 +1,6 @@
 //! The faces of patterns, against tables worked by hand or given by a model that shares nothing with the editor.
 
-use cp_text::{LineFault, next_line, next_word, read_line, read_point, write_number};
+use cp_text::{LineFault, next_line, next_word, read_line_words, read_point, write_number};
 use crease_model::{Kind, Pattern, Sheet};
 use crease_store::add;
 use face_builder::{FaceFault, FaceMap, faces};
@@ -237,13 +237,23 @@ fn sheet_of(alloc: Global, text: &[u8]) -> Result<Sheet, Fail> {
     Ok(Sheet::new(alloc, corners.as_slice())?)
 }
 
+fn with_line(alloc: Global, pattern: Pattern, line: &[u8]) -> Result<Pattern, Fail> {
+    match next_word(line) {
+        None => Ok(pattern),
+        Some((word, words)) => {
+            let crease = read_line_words(line, word, words)?;
+            let new = add(alloc, &pattern, crease.kind, &crease.from, &crease.to)?;
+            Ok(new)
+        }
+    }
+}
+
 fn pattern_of(alloc: Global, sheet: Sheet, text: &[u8]) -> Result<Pattern, Fail> {
     let mut pattern = Pattern::empty(sheet);
     let mut rest = text;
     for _ in 0..text.len() {
         if let Some((line, later)) = next_line(rest) {
-            let crease = read_line(line)?;
-            pattern = add(alloc, &pattern, crease.kind, &crease.from, &crease.to)?;
+            pattern = with_line(alloc, pattern, line)?;
             rest = later;
         }
     }
