@@ -1,5 +1,5 @@
 -- Across a piece of a face lies the other face of the piece.
-use Rattle.std.proofs.Common.{◌≡◌, ℕ, zero, suc, ◌+◌, ◌-◌, ◌≤◌, true, nat_eq, map, ◌⊎◌, inl, inr, List, [], ◌∷◌, Option, None, Some, min, max, refl, sym, ap, ap₂, subst, ◌∙◌, arith}
+use Rattle.std.proofs.Common.{◌≡◌, ℕ, zero, suc, ◌+◌, ◌-◌, ◌≤◌, true, nat_eq, map, ◌⊎◌, inl, inr, List, [], ◌∷◌, length, Option, None, Some, min, max, refl, sym, ap, ap₂, subst, ◌∙◌, arith}
 use Rattle.std.specs.Prelude.{slice_get, unwrap_or}
 use Rattle.std.proofs.lemmas.Bool.{cond_both, eqb-true, eqb-false}
 use Rattle.std.proofs.lemmas.Option.{unwrap_or-slice_get}
@@ -16,14 +16,15 @@ use Rattle.face_builder.specs.HalfEdge.{forward, backward, half_edges_of}
 use Rattle.face_builder.specs.MapRules.{IsShared, AreAcross, IsWalk}
 use Rattle.face_builder.specs.Shared.{left_face, right_face, shared_piece, shared_from}
 use Rattle.face_builder.specs.Walk.{other_face, other_side, face_across, face_half_edges, walk_of}
-use Rattle.face_builder.proofs.Cover.{place_once}
+use Rattle.face_builder.proofs.Cover.{some_is, place_once}
 use Rattle.face_builder.proofs.Departures.{kind_of}
 use Rattle.face_builder.proofs.LeavesApart.{IsNumbered}
 use Rattle.face_builder.proofs.Nexts.{member_of_place}
 use Rattle.face_builder.proofs.Polygons.{face_member}
 use Rattle.face_builder.proofs.SharedLaws.{numbered_from, IsAt, left_is, right_is, different, all_shared}
 use Rattle.face_builder.proofs.Sides.{from_sorted}
-use Rattle.face_builder.proofs.WalkLaws.{LeadsAcross, walks}
+use Rattle.face_builder.proofs.ShortWalk.{short_walk}
+use Rattle.face_builder.proofs.WalkLaws.{LeadsAcross, step_faces, walks}
 
 shared_at : (faces : List (List HalfEdge)) (k : ℕ) (ps : List Piece) (j : ℕ) (q : Piece) → IsNumbered k ps j q
     → slice_get (shared_from faces k ps) (j - k) ≡ Some (shared_piece faces j q)
@@ -35,8 +36,14 @@ shared_at faces k (x ∷ xs) j q (inr n) =
     let more : j - k ≡ suc (j - (k + 1)) = omega (arith, numbered_from (k + 1) xs j q n) in
     ap (slice_get (shared_from faces k (x ∷ xs))) more ∙ shared_at faces (k + 1) xs j q n
 
-some_number : (m n : ℕ) → Some m ≡ Some n → m ≡ n
-some_number m n e = cc
+-- the pieces are numbered by their places
+pub numbered_at : (faces : List (List HalfEdge)) (k : ℕ) (ps : List Piece) (i : ℕ) (s : SharedPiece)
+    → slice_get (shared_from faces k ps) i ≡ Some s → s.piece ≡ k + i
+numbered_at faces k [] i s e = cc
+numbered_at faces k (q ∷ qs) zero s e =
+    let here : s.piece ≡ k = sym (ap (λ (x : SharedPiece). x.piece) (some_is (shared_piece faces k q) s e)) in
+    omega (arith, here)
+numbered_at faces k (q ∷ qs) (suc i) s e = omega (arith, numbered_at faces (k + 1) qs i s e)
 
 -- one of two different numbers, and the other one
 other_is : (x : SharedPiece) (l r f : ℕ) → x.a ≡ min l r → x.b ≡ max l r → (l ≡ r → ⊥) → (l ≡ f) ⊎ (r ≡ f)
@@ -130,11 +137,18 @@ module _ (p : PatternView) (sheet : is_sheet p.corners ≡ true) (rules : IsPatt
         | inr b ↦ subst (λ o. LeadsAcross shared f o) (sym b.plain) tt
       ]
 
-  positive : (x : SharedPiece) → Member shared x → (1 ≤ x.a) × (1 ≤ x.b)
-  positive x m =
+  within : (x : SharedPiece) → Member shared x → ((1 ≤ x.a) × (x.a ≤ length (map corners_of faces)))
+      × ((1 ≤ x.b) × (x.b ≤ length (map corners_of faces)))
+  within x m =
       let s = all_member (λ (y : SharedPiece). IsShared (map corners_of faces) y) shared x
       (all_shared p sheet rules none) m in
-      (s.first, omega (arith, s.first, s.order))
+      ((s.first, omega (arith, s.order, s.last)), (omega (arith, s.first, s.order), s.last))
 
   pub all_walk : IsWalk shared [] (walk_of shared faces)
-  all_walk = walks shared faces across positive
+  all_walk = walks shared faces across (λ x m. let b = within x m in (b.0.0, b.1.0))
+
+  pub few_steps : length (walk_of shared faces) ≤ length (map corners_of faces) - 1
+  few_steps =
+      let n = length (map corners_of faces) in
+      short_walk shared (walk_of shared faces) n all_walk
+      (step_faces shared (λ f. (1 ≤ f) × (f ≤ n)) within [] (walk_of shared faces) all_walk)

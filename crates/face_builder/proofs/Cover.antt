@@ -29,7 +29,7 @@ member_map f [] a m = absurd m
 member_map f (b ∷ bs) a (inl e) = inl (ap f e)
 member_map f (b ∷ bs) a (inr m) = inr (member_map f bs a m)
 
-some_is : {X : Type 0} (g h : X) → Some g ≡ Some h → g ≡ h
+pub some_is : {X : Type 0} (g h : X) → Some g ≡ Some h → g ≡ h
 some_is g h e = cc
 
 module _ (p : PatternView) (sheet : is_sheet p.corners ≡ true) (rules : IsPattern p) where

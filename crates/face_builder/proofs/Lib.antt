@@ -21,6 +21,7 @@ mod Refusals
 mod RoundLaws
 mod Rounds
 mod SharedLaws
+mod ShortWalk
 mod SideFills
 mod Sheets
 mod Sides

@@ -11,7 +11,7 @@ use Rattle.face_builder.specs.Walk.{first_unreached}
 use Rattle.face_builder.specs.declared.walk.Step.{Step}
 use Rattle.face_builder.specs.HalfEdge.{half_edges_of}
 use Rattle.face_builder.specs.MapRules.{AreFaces}
-use Rattle.face_builder.proofs.AcrossLaws.{all_walk}
+use Rattle.face_builder.proofs.AcrossLaws.{numbered_at, all_walk, few_steps}
 use Rattle.face_builder.proofs.Polygons.{all_convex, few_by, faces_least, neither, not_mapped}
 use Rattle.face_builder.proofs.SharedLaws.{all_shared}
 use Rattle.face_builder.proofs.WalkLaws.{all_reached}
@@ -37,7 +37,15 @@ map_rules p sheet rules convex size =
       convex = all_convex p sheet convex;
       least = faces_least p (sheet_turns p.corners sheet).0 (faces_among (half_edges_of p)) (λ f m. m);
       shared = all_shared p sheet rules convex;
+      numbered = λ k s at. omega (arith, numbered_at faces 1 p.pieces k s at);
       walk = all_walk p sheet rules convex;
+      short =
+          omega (
+            arith,
+            few_by (length (faces_among (half_edges_of p))) _ size,
+            length-map (faces_among (half_edges_of p)) corners_of,
+            few_steps p sheet rules convex,
+          );
       reached = λ f low high.
           all_reached (walk_among faces p.pieces) 1 (length faces)
           (none_unreached (length faces) (walk_among faces p.pieces) size) f low

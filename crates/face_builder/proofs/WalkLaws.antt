@@ -15,7 +15,7 @@ use Rattle.face_builder.proofs.Nexts.{member_of_place}
 
 -- ---- reached faces
 
-reached_later : (before : List Step) (s : Step) (f : ℕ) → is_reached before f ≡ true
+pub reached_later : (before : List Step) (s : Step) (f : ℕ) → is_reached before f ≡ true
     → is_reached (before ++ s ∷ []) f ≡ true
 reached_later before s f e =
     elim (or_cases (nat_eq f 1) (has_step_to before f) e) [
@@ -102,26 +102,24 @@ module _ (shared : List SharedPiece) where
           (member_any (λ (t : Step). nat_eq t.face f) steps s (member_of_place steps i s at)
           (eq-eqb s.face f (some_number s.face f e)))
 
+  -- what holds of the faces on the sides of each shared piece holds of each face that a step leads to
+  step_face : (P : ℕ → Type 0) → ((x : SharedPiece) → Member shared x → P x.a × P x.b) → (before : List Step)
+      (s : Step) → IsStep shared before s → P s.face
+  step_face P all before s step =
+      let x = step.across.0 in
+      let both = all x (member shared x step.across.1) in
+      elim step.across.3 [ inl way ↦ subst P way.1 both.1 | inr back ↦ subst P back.0 both.0 ]
+
+  pub step_faces : (P : ℕ → Type 0) → ((x : SharedPiece) → Member shared x → P x.a × P x.b)
+      → (before steps : List Step) → IsWalk shared before steps → (s : Step) → Member steps s → P s.face
+  step_faces P all before [] w s m = absurd m
+  step_faces P all before (x ∷ xs) w s (inl at) =
+      subst (λ (t : Step). P t.face) at (step_face P all before x w.0)
+  step_faces P all before (x ∷ xs) w s (inr m) = step_faces P all (before ++ x ∷ []) xs w.1 s m
+
   module _ (faces : List (List HalfEdge))
       (across : (f : ℕ) (h : HalfEdge) → 1 ≤ f → Member (face_half_edges faces f) h → LeadsAcross f h.piece)
       (positive : (x : SharedPiece) → Member shared x → (1 ≤ x.a) × (1 ≤ x.b)) where
-    -- faces count from 1
-    step_positive : (before : List Step) (s : Step) → IsStep shared before s → 1 ≤ s.face
-    step_positive before s step =
-        let x = step.across.0 in
-        let few = positive x (member shared x step.across.1) in
-        elim step.across.3 [
-          | inl way ↦ omega (arith, few.1, way.1)
-          | inr back ↦ omega (arith, few.0, back.0)
-        ]
-
-    steps_positive : (before steps : List Step) → IsWalk shared before steps → (s : Step) → Member steps s → 1
-        ≤ s.face
-    steps_positive before [] w s m = absurd m
-    steps_positive before (x ∷ xs) w s (inl at) =
-        subst (λ (t : Step). 1 ≤ t.face) at (step_positive before x w.0)
-    steps_positive before (x ∷ xs) w s (inr m) = steps_positive (before ++ x ∷ []) xs w.1 s m
-
     reached_positive : (steps : List Step) → IsWalk shared [] steps → (f : ℕ) → is_reached steps f ≡ true → 1
         ≤ f
     reached_positive steps w f e =
@@ -129,7 +127,7 @@ module _ (shared : List SharedPiece) where
           | inl one ↦ omega (arith, eqb-true f 1 one)
           | inr some ↦
               (let r = any_member (λ (t : Step). nat_eq t.face f) steps some in
-              omega (arith, steps_positive [] steps w r.0 r.1, eqb-true r.0.face f r.2))
+              omega (arith, step_faces (λ n. 1 ≤ n) positive [] steps w r.0 r.1, eqb-true r.0.face f r.2))
         ]
 
     walk_walks : (i : ℕ) (turns : List (List HalfEdge)) (steps : List Step) → IsWalk shared [] steps

@@ -1,5 +1,5 @@
 -- What each map of faces keeps.
-use Rattle.std.specs.Prelude.{◌≡◌, ℕ, ◌≤◌, ◌<◌, ◌⊎◌, ⊤, List, [], ◌∷◌, ◌++◌, length, Some, Contains, IsTrue}
+use Rattle.std.specs.Prelude.{◌≡◌, ℕ, ◌+◌, ◌≤◌, ◌<◌, ◌⊎◌, ⊤, List, [], ◌∷◌, ◌++◌, length, Some, slice_get, Contains, IsTrue}
 use Rattle.std.specs.Bool.{IsFalse}
 use Rattle.std.specs.List.{AllByRecursion, list_all}
 use Rattle.plane_geometry.specs.declared.Point.{Point}
@@ -46,13 +46,18 @@ abbrev pub IsWalk : List SharedPiece → List Step → List Step → Type 0
 IsWalk shared before [] = ⊤
 IsWalk shared before (s ∷ steps) = IsStep shared before s × IsWalk shared (before ++ s ∷ []) steps
 
+-- the shared pieces are numbered by their places, from 1
+abbrev pub AreNumbered : List SharedPiece → Type 0
+AreNumbered shared = (k : ℕ) (s : SharedPiece) → slice_get shared k ≡ Some s → s.piece ≡ k + 1
+
 -- few faces, each of them convex, with its corners from the least one on; each piece between two of them; a
--- walk that
--- reaches all of them
+-- walk of fewer steps than faces may be, that reaches all of them
 pub record AreFaces (m : FaceMapView) : Type 0 where
   pub few : length m.faces ≤ most_faces
   pub convex : IsTrue (list_all is_convex m.faces)
   pub least : IsTrue (list_all is_least_first m.faces)
   pub shared : AllByRecursion (IsShared m.faces) m.shared
+  pub numbered : AreNumbered m.shared
   pub walk : IsWalk m.shared [] m.walk
+  pub short : length m.walk < most_faces
   pub reached : (f : ℕ) → 1 ≤ f → f ≤ length m.faces → IsTrue (is_reached m.walk f)
