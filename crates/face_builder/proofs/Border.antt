@@ -25,15 +25,12 @@ use Rattle.crease_model.specs.PartLaws.{EndsAt, in_order, turned, segment_ends}
 use Rattle.line_split.specs.MemberLaws.{Member}
 use Rattle.face_builder.specs.declared.half_edges.HalfEdge.{HalfEdge}
 use Rattle.face_builder.specs.HalfEdge.{forward, backward, parts_from}
+pub use Rattle.face_builder.specs.HalfEdgeKinds.{Goes}
 use Rattle.face_builder.specs.Sorted.{others_after, each_once}
 use Rattle.face_builder.specs.Vertices.{compare_points, is_same_point, is_between, point_between, ends_between, ascending_of, vertices_between, vertices_along}
 use Rattle.face_builder.proofs.Chains.{Chain, chain_close, chain_open, chain_as, chain_reverse, member_either, reverse_member, flat_member}
 use Rattle.face_builder.proofs.Ordered.{points_total}
 use Rattle.face_builder.proofs.Sorting.{Up, in_order_up, in_order_member}
-
--- from u to v it goes in direction n
-abbrev pub Goes : ℕ → Point → Point → Type 0
-Goes n u v = is_along n (position_of u) (position_of v) ≡ true
 
 -- a half-edge runs in its direction
 abbrev pub Runs : HalfEdge → Type 0
@@ -144,7 +141,7 @@ others_member x (y ∷ ys) z =
     (λ same m. inr (others_member x ys z m))
     (λ other m. elim m [ inl at ↦ inl at | inr n ↦ inr (others_member y ys z n) ])
 
-once_member : (xs : List Point) (z : Point) → Member (each_once is_same_point xs) z → Member xs z
+pub once_member : (xs : List Point) (z : Point) → Member (each_once is_same_point xs) z → Member xs z
 once_member [] z m = m
 once_member (x ∷ xs) z (inl at) = inl at
 once_member (x ∷ xs) z (inr m) = inr (others_member x xs z m)

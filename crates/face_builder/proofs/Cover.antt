@@ -11,7 +11,7 @@ use Rattle.crease_model.specs.PartLaws.{sheet_turns}
 use Rattle.crease_model.specs.View.{PatternView}
 use Rattle.line_split.specs.MemberLaws.{Member}
 use Rattle.face_builder.specs.declared.half_edges.HalfEdge.{HalfEdge}
-use Rattle.face_builder.specs.Cycle.{next_of, is_leader, cycle_from, leaders_from}
+use Rattle.face_builder.specs.Cycle.{ArePermuted, next_of, is_leader, cycle_from, leaders_from}
 use Rattle.face_builder.specs.Faces.{half_edge_in, led_face, faces_among}
 use Rattle.face_builder.specs.Fan.{next_place, nexts_of}
 use Rattle.face_builder.specs.HalfEdge.{half_edges_of}
@@ -72,6 +72,9 @@ module _ (p : PatternView) (sheet : is_sheet p.corners ≡ true) (rules : IsPatt
       (runs p directed) g.0 h.0 k.0 m n k.1
       (subst (λ z. GoesOn hs h.0 z) same_next l.1) in
       distinct_places hs (half_edges_distinct p sheet) x y g.0 g.1 (h.1 ∙ ap Some (sym one))
+
+  pub permuted : ArePermuted nexts
+  permuted = record { into = into; apart = one_to_one }
 
   -- each half-edge is in a face
   pub covered : (g : HalfEdge) → Member hs g → (face : List HalfEdge) × Member (faces_among hs) face

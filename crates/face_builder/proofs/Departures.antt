@@ -38,7 +38,7 @@ dot_chain d p q r =
     (v0 ⊗ (v6 ⊝ v2) ⊕ v1 ⊗ (v7 ⊝ v3))
     ((v0 ⊗ (v4 ⊝ v2) ⊕ v1 ⊗ (v5 ⊝ v3)) ⊕ (v0 ⊗ (v6 ⊝ v4) ⊕ v1 ⊗ (v7 ⊝ v5))) refl
 
-along_on : (n : ℕ) (p q r : Position) → is_along n p q ≡ true → is_along n q r ≡ true → is_along n p r ≡ true
+pub along_on : (n : ℕ) (p q r : Position) → is_along n p q ≡ true → is_along n q r ≡ true → is_along n p r ≡ true
 along_on n p q r a b =
     let k = along_parts n p q a in
     let l = along_parts n q r b in
@@ -77,7 +77,7 @@ part_once d n few u (v ∷ vs) g h c (inr a) (inl b) e =
     absurd (not_along_itself n (position_of u) few (subst (λ (z : Point). Goes n u z) same later))
 part_once d n few u (v ∷ vs) g h c (inr a) (inr b) e = part_once d n few v vs g h c.1 a b e
 
-end_in : (d : Dir) (u : Point) (vs : List Point) (h : HalfEdge) → Member (parts_from d u vs) h
+pub end_in : (d : Dir) (u : Point) (vs : List Point) (h : HalfEdge) → Member (parts_from d u vs) h
     → Member vs h.end
 end_in d u [] h m = absurd m
 end_in d u (v ∷ vs) h (inl at) = inl (ap (λ (k : HalfEdge). k.end) at)

@@ -22,7 +22,7 @@ use Rattle.face_builder.proofs.Ordered.{points_total, half_edges_total, tied_hal
 use Rattle.face_builder.proofs.Rounds.{IsRound}
 use Rattle.face_builder.proofs.Sorting.{Up, in_order_up, order}
 
-abbrev UpHalfEdges : List HalfEdge → Type 0
+abbrev pub UpHalfEdges : List HalfEdge → Type 0
 UpHalfEdges = Up compare_half_edges half_edges_total tied_half_edges
 
 -- no later one is less
@@ -38,7 +38,7 @@ up_rest : (x : HalfEdge) (xs : List HalfEdge) → UpHalfEdges (x ∷ xs) → UpH
 up_rest x [] u = tt
 up_rest x (y ∷ ys) u = u.1
 
-later_place : (hs : List HalfEdge) (i k : ℕ) (x z : HalfEdge) → UpHalfEdges hs → i < k → slice_get hs i
+pub later_place : (hs : List HalfEdge) (i k : ℕ) (x z : HalfEdge) → UpHalfEdges hs → i < k → slice_get hs i
     ≡ Some x
     → slice_get hs k ≡ Some z → is_lt (compare_half_edges z x) ≡ false
 later_place [] i k x z u less e f = cc
@@ -67,7 +67,7 @@ not_below_itself : (p : Point) → is_lt (compare_points p p) ≡ false
 not_below_itself p = ap is_lt (tied_itself points_total p)
 
 module _ (p : PatternView) (directed : list_all has_direction (sides_of p.corners) ≡ true) where
-  sorted : UpHalfEdges (half_edges_of p)
+  pub sorted : UpHalfEdges (half_edges_of p)
   unfolding half_edges_of
   sorted = in_order_up compare_half_edges half_edges_total tied_half_edges (all_half_edges p)
 

@@ -8,11 +8,14 @@ mod Corners
 mod Cover
 mod Departures
 mod Distinct
+mod FaceOrder
 mod FanMaps
 mod LeastFirst
 mod LeavesApart
+mod KindLaws
 mod Lengths
 mod MapLaws
+mod Marks
 mod Nexts
 mod Ordered
 mod Partition

@@ -38,7 +38,7 @@ half_edges_total =
     (then_total (on_total (λ (h : HalfEdge). h.end) points_total)
     (on_total (λ (h : HalfEdge). h.piece) (options_total nat_cmp_total))))
 
-tied_numbers : (m n : ℕ) → nat_cmp m n ≡ Equal → m ≡ n
+pub tied_numbers : (m n : ℕ) → nat_cmp m n ≡ Equal → m ≡ n
 tied_numbers m n e = ranked m n Equal (sym e)
 
 tied_pieces : (m n : Option ℕ) → option_cmp nat_cmp m n ≡ Equal → m ≡ n
@@ -47,7 +47,7 @@ tied_pieces None (Some n) e = let h : Less ≡ Equal = e in cc
 tied_pieces (Some m) None e = let h : Greater ≡ Equal = e in cc
 tied_pieces (Some m) (Some n) e = ap Some (tied_numbers m n e)
 
-from_parts : (g h : HalfEdge) → g.start ≡ h.start → g.dir ≡ h.dir → g.end ≡ h.end → g.piece ≡ h.piece → g ≡ h
+pub from_parts : (g h : HalfEdge) → g.start ≡ h.start → g.dir ≡ h.dir → g.end ≡ h.end → g.piece ≡ h.piece → g ≡ h
 from_parts g h s d e p = λ i. record { start = s i; dir = d i; end = e i; piece = p i }
 
 pub tied_half_edges : (g h : HalfEdge) → compare_half_edges g h ≡ Equal → g ≡ h

@@ -59,7 +59,7 @@ module _ (nexts : List ℕ) where
   unfolding is_leader
   leader_leads f e = comes_back nexts f nexts f e
 
-  leader_least : (f : ℕ) → is_leader nexts f ≡ true → (y : ℕ) → Member (f ∷ rest_of f) y → f ≤ y
+  pub leader_least : (f : ℕ) → is_leader nexts f ≡ true → (y : ℕ) → Member (f ∷ rest_of f) y → f ≤ y
   unfolding is_leader
   leader_least f e y (inl at) = omega (arith, at)
   leader_least f e y (inr m) = omega (arith, rest_behind nexts f nexts f e y m)

@@ -38,6 +38,9 @@ side_direction_is : (h : HalfEdge) → Runs h → side_direction (side_of_half h
 side_direction_is h runs =
     direction_along (dir_number h.dir) (position_of h.start) (position_of h.end) (few_dir h) runs
 
+pub side_number_is : (h : HalfEdge) → Runs h → side_number (side_of_half h) ≡ dir_number h.dir
+side_number_is h runs = ap (λ o. unwrap_or o 0) (side_direction_is h runs)
+
 sides_directed : (face : List HalfEdge) → ((h : HalfEdge) → Member face h → Runs h)
     → list_all has_direction (map side_of_half face) ≡ true
 sides_directed [] runs = refl
@@ -49,12 +52,12 @@ sides_numbers : (face : List HalfEdge) → ((h : HalfEdge) → Member face h →
     → map side_number (map side_of_half face) ≡ directions_round face
 sides_numbers [] runs = refl
 sides_numbers (h ∷ hs) runs =
-    ap₂ ◌∷◌ (ap (λ o. unwrap_or o 0) (side_direction_is h (runs h (inl refl))))
+    ap₂ ◌∷◌ (side_number_is h (runs h (inl refl)))
     (sides_numbers hs (λ g m. runs g (inr m)))
 
 module _ (hs : List HalfEdge) (goes : (h : HalfEdge) → Member hs h → (g : HalfEdge) × GoesOn hs h g) where
   -- the sides of the corners are the half-edges
-  sides_are : (first h : HalfEdge) (rest : List HalfEdge) → Follows hs goes first h rest
+  pub sides_are : (first h : HalfEdge) (rest : List HalfEdge) → Follows hs goes first h rest
       → sides_from first.start (corners_of (h ∷ rest)) ≡ map side_of_half (h ∷ rest)
   sides_are first h [] f = ap (λ (p : Point). record { start = h.start; end = p } ∷ []) f.joined
   sides_are first h (g ∷ gs) f =

@@ -151,7 +151,7 @@ module _ (hs : List HalfEdge) (goes : (h : HalfEdge) → Member hs h → (g : Ha
     pub behind : (g : HalfEdge) → Member others g → (k : ℕ) × (place < k) × (slice_get hs k ≡ Some g)
     pub closed : Follows first first others
 
-  pub round_of : (i : ℕ) → i < length hs → is_leader (nexts_of hs) i ≡ true
+  unfoldable pub round_of : (i : ℕ) → i < length hs → is_leader (nexts_of hs) i ≡ true
       → IsRound (led_face hs (nexts_of hs) i)
   unfolding is_leader cycle_from
   round_of i less leads =

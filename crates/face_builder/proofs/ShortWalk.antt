@@ -1,14 +1,14 @@
 -- The walk has fewer steps than there are faces.
-use Rattle.std.proofs.Common.{◌≡◌, ℕ, zero, suc, ◌+◌, ◌-◌, ◌≤◌, ◌<◌, true, false, nat_eq, inl, inr, List, [], ◌∷◌, ◌++◌, Some, length, refl, sym, ap, subst, ◌∙◌, arith}
+use Rattle.std.proofs.Common.{◌≡◌, ℕ, zero, suc, ◌-◌, ◌≤◌, ◌<◌, true, nat_eq, inl, inr, List, [], ◌∷◌, ◌++◌, Some, length, refl, sym, ap, subst, ◌∙◌, arith}
 use Rattle.std.specs.Prelude.{slice_get, slice_index_or}
-use Rattle.std.proofs.lemmas.Bool.{both_ways as not_both, eq-eqb, or_left, or_right}
+use Rattle.std.proofs.lemmas.Bool.{both_ways as not_both, eq-eqb, or_right}
 use Rattle.std.proofs.lemmas.Option.{slice_get-get_or}
-use Rattle.line_split.specs.MemberLaws.{Member, member, member_any}
+use Rattle.line_split.specs.MemberLaws.{Member, member_any}
 use Rattle.indexmap.proofs.IndexTableLemmas.Probe.{pigeonhole}
 use Rattle.face_builder.specs.declared.shared.SharedPiece.{SharedPiece}
 use Rattle.face_builder.specs.declared.walk.Step.{Step}
-use Rattle.face_builder.specs.MapRules.{IsStep, IsWalk}
-use Rattle.face_builder.specs.Walk.{has_step_to, is_reached}
+use Rattle.face_builder.specs.MapRules.{IsWalk}
+use Rattle.face_builder.specs.Walk.{is_reached}
 use Rattle.face_builder.proofs.Nexts.{member_of_place}
 use Rattle.face_builder.proofs.WalkLaws.{reached_later}
 

@@ -1,15 +1,19 @@
 -- Cycles of a list of next places: round a face.
 use Rattle.std.specs.Ordering.{nat_cmp}
 use Rattle.line_split.specs.Points.{by_order}
-use Rattle.std.specs.Prelude.{ℕ, ◌+◌, Bool, true, false, List, [], ◌∷◌, nat_eq, slice_index_or, if◌then◌else◌}
+use Rattle.std.specs.Prelude.{◌≡◌, ℕ, ◌+◌, ◌<◌, Bool, true, false, List, [], ◌∷◌, length, nat_eq, slice_index_or, if◌then◌else◌}
 
 -- the place after i; 0 past the end
 abbrev pub next_of : List ℕ → ℕ → ℕ
 next_of nexts i = slice_index_or nexts i 0
 
+-- after each place comes a place, and after different ones come different ones
+pub record ArePermuted (nexts : List ℕ) : Type 0 where
+  pub into : (i : ℕ) → i < length nexts → next_of nexts i < length nexts
+  pub apart : (i j : ℕ) → i < length nexts → j < length nexts → next_of nexts i ≡ next_of nexts j → i ≡ j
+
 -- whether the walk from place i comes to the first place before it meets a lesser one, in as many steps as
--- there are
--- places in the second list
+-- there are places in the second list
 abbrev pub comes_first : List ℕ → ℕ → List ℕ → ℕ → Bool
 comes_first nexts first [] i = false
 comes_first nexts first (step ∷ steps) i =

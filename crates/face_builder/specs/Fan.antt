@@ -7,20 +7,18 @@ use Rattle.face_builder.specs.declared.half_edges.HalfEdge.{HalfEdge}
 use Rattle.face_builder.specs.declared.fans.Exit.{Exit}
 
 -- the interior angle of a face that comes in by direction n and goes on by direction m, in steps of 22.5
--- degrees: how
--- far m is clockwise from the way back, 1 to 16
+-- degrees: how far m is clockwise from the way back, 1 to 16
 abbrev pub interior_angle : ℕ → ℕ → ℕ
 interior_angle n m = (n + 23 - m) % 16 + 1
+
+abbrev pub exit_by : ℕ → HalfEdge → Exit
+exit_by i h = record { place = i; dir = h.dir }
 
 -- the half-edges that leave v, by their places; the first of the list has the place i
 abbrev pub exits_from : ℕ → Point → List HalfEdge → List Exit
 exits_from i v [] = []
 exits_from i v (h ∷ hs) =
-    if is_same_position (position_of h.start) (position_of v) then record {
-      place = i;
-      dir =
-          h.dir;
-    } ∷ exits_from (i + 1) v hs
+    if is_same_position (position_of h.start) (position_of v) then exit_by i h ∷ exits_from (i + 1) v hs
     else exits_from (i + 1) v hs
 
 unfoldable pub exits_at : Point → List HalfEdge → List Exit

@@ -31,8 +31,7 @@ forward k p =
     record {
       start = lesser_end p.segment;
       dir = dir_of (direction_number p.segment);
-      end =
-          greater_end p.segment;
+      end = greater_end p.segment;
       piece = Some k;
     }
 
@@ -42,8 +41,7 @@ backward k p =
     record {
       start = greater_end p.segment;
       dir = dir_of (direction_number p.segment + 8);
-      end =
-          lesser_end p.segment;
+      end = lesser_end p.segment;
       piece = Some k;
     }
 

@@ -3,6 +3,7 @@ pub mod Faces
 pub mod Fan
 pub mod FanMap
 pub mod HalfEdge
+pub mod HalfEdgeKinds
 pub mod MapRules
 pub mod Round
 pub mod Shared

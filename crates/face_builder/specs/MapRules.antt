@@ -1,14 +1,18 @@
 -- What each map of faces keeps.
-use Rattle.std.specs.Prelude.{◌≡◌, ℕ, ◌+◌, ◌≤◌, ◌<◌, ◌⊎◌, ⊤, List, [], ◌∷◌, ◌++◌, length, Some, slice_get, Contains, IsTrue}
+use Rattle.std.specs.Prelude.{◌≡◌, ℕ, ◌+◌, ◌≤◌, ◌<◌, ◌⊎◌, ⊤, List, [], ◌∷◌, ◌++◌, length, take, Some, slice_get, Contains, IsTrue}
 use Rattle.std.specs.Bool.{IsFalse}
-use Rattle.std.specs.List.{AllByRecursion, list_all}
+use Rattle.std.specs.List.{AllByRecursion, list_all, flat_map}
+use Rattle.std.specs.List.Sorted.{IsStrictlySortedBy}
+use Rattle.std.specs.Ordering.{ordering_then, nat_cmp}
+use Rattle.std.specs.declared.cmp.Ordering.{Ordering}
 use Rattle.plane_geometry.specs.declared.Point.{Point}
-use Rattle.plane_geometry.specs.Polygon.{sides_of, is_convex}
+use Rattle.plane_geometry.specs.Polygon.{Side, sides_of, side_number, is_convex}
 use Rattle.plane_geometry.specs.SegmentView.{lesser_end, greater_end}
 use Rattle.crease_model.specs.Sheet.{is_least_first}
 use Rattle.face_builder.specs.declared.shared.SharedPiece.{SharedPiece}
 use Rattle.face_builder.specs.declared.walk.Step.{Step}
 use Rattle.face_builder.specs.Faces.{most_faces}
+use Rattle.face_builder.specs.Vertices.{compare_points}
 use Rattle.face_builder.specs.View.{FaceMapView, corners_at}
 use Rattle.face_builder.specs.Walk.{is_reached}
 
@@ -50,12 +54,22 @@ IsWalk shared before (s ∷ steps) = IsStep shared before s × IsWalk shared (be
 abbrev pub AreNumbered : List SharedPiece → Type 0
 AreNumbered shared = (k : ℕ) (s : SharedPiece) → slice_get shared k ≡ Some s → s.piece ≡ k + 1
 
--- few faces, each of them convex, with its corners from the least one on; each piece between two of them; a
--- walk of fewer steps than faces may be, that reaches all of them
+-- sides in order: by start, then by direction
+abbrev pub compare_sides : Side → Side → Ordering
+compare_sides s t = ordering_then (compare_points s.start t.start) (nat_cmp (side_number s) (side_number t))
+
+-- of each face the side that leaves its first corner
+abbrev pub first_sides : List (List Point) → List Side
+first_sides faces = flat_map (λ corners. take 1 (sides_of corners)) faces
+
+-- few faces, each of them convex, with its corners from the least one on; they ascend by this corner, then by
+-- the direction of the side that leaves it; each piece between two of them; a walk of fewer steps than faces
+-- may be, that reaches all of them
 pub record AreFaces (m : FaceMapView) : Type 0 where
   pub few : length m.faces ≤ most_faces
   pub convex : IsTrue (list_all is_convex m.faces)
   pub least : IsTrue (list_all is_least_first m.faces)
+  pub ascending : IsStrictlySortedBy compare_sides (first_sides m.faces)
   pub shared : AllByRecursion (IsShared m.faces) m.shared
   pub numbered : AreNumbered m.shared
   pub walk : IsWalk m.shared [] m.walk

@@ -1,10 +1,10 @@
 //! Cycles of next places: the ways round faces.
 
-ghost use Rattle.std.specs.Prelude.{◌≡◌, ◌∷◌, ◌++◌, ◌<◌, length, IfOk, OnOk};
-ghost use Rattle.face_builder.specs.Cycle.{next_of, comes_first, is_leader, rest_from, cycle_from, leaders_from};
+ghost use Rattle.std.specs.Prelude.{◌≡◌, ℕ, Bool, ◌||◌, ◌∷◌, ◌++◌, ◌<◌, length, nat_eq, slice_index_or, IfOk, OnOk};
+ghost use Rattle.std.specs.List.{list_any};
+ghost use Rattle.face_builder.specs.Cycle.{ArePermuted, next_of, is_leader, rest_from, cycle_from, leaders_from};
 
 use std::alloc::{AllocError, Global};
-use std::cmp::Ordering;
 
 /// The place after one; 0 past the end.
 pub fn next_of(nexts: &[u32], i: u32) -> u32
@@ -14,23 +14,6 @@ pub fn next_of(nexts: &[u32], i: u32) -> u32
         Some(next) => *next,
         None => 0,
     }
-}
-
-// Whether the place is the least one of its cycle.
-#[tactic(auto, unfolding(crate::specs::Cycle::is_leader))]
-fn is_leader(nexts: &[u32], first: u32) -> bool
-    ensures { result ≡ is_leader nexts.now first }
-{
-    let mut i = next_of(nexts, first);
-    for step in nexts {
-        let _step = *step;
-        match i.cmp(&first) {
-            Ordering::Less => return false,
-            Ordering::Equal => return true,
-            Ordering::Greater => i = next_of(nexts, i),
-        }
-    }
-    false
 }
 
 // Appends the walk from a place up to the first one.
@@ -61,16 +44,61 @@ pub fn cycle_from(alloc: Global, nexts: &[u32], first: u32) -> Result<Vec<u32>, 
     Ok(cycle)
 }
 
-/// The least places of the cycles, ascending.
+// Marks a place, if there is one.
+fn put_mark(marks: &mut Vec<bool>, place: u32)
+    ensures count { length marks.new.items ≡ length marks.old.items }
+    ensures value { (k : ℕ) (d : Bool) → k < length marks.old.items
+        → slice_index_or marks.new.items k d ≡ (slice_index_or marks.old.items k d || nat_eq k place) }
+{
+    if (place as usize) < marks.len() {
+        marks[place as usize] = true;
+    }
+}
+
+// Marks the walk from a place up to the first one.
+fn put_rest(marks: &mut Vec<bool>, nexts: &[u32], first: u32)
+    ensures count { length marks.new.items ≡ length marks.old.items }
+    ensures value { (k : ℕ) (d : Bool) → k < length marks.old.items
+        → slice_index_or marks.new.items k d
+        ≡ (slice_index_or marks.old.items k d
+        || list_any (nat_eq k) (rest_from nexts.now first nexts.now (next_of nexts.now first))) }
+{
+    let mut i = next_of(nexts, first);
+    for step in nexts {
+        let _step = *step;
+        if i == first {
+            return;
+        }
+        put_mark(marks, i);
+        i = next_of(nexts, i);
+    }
+}
+
+// Marks the cycle that a place leads.
+#[tactic(auto, unfolding(crate::specs::Cycle::cycle_from))]
+fn put_cycle(marks: &mut Vec<bool>, nexts: &[u32], first: u32)
+    ensures count { length marks.new.items ≡ length marks.old.items }
+    ensures value { (k : ℕ) (d : Bool) → k < length marks.old.items
+        → slice_index_or marks.new.items k d
+        ≡ (slice_index_or marks.old.items k d || list_any (nat_eq k) (cycle_from nexts.now first)) }
+{
+    put_mark(marks, first);
+    put_rest(marks, nexts, first);
+}
+
+/// The least places of the cycles, ascending: the places that no earlier one's cycle has.
 pub fn leaders(alloc: Global, nexts: &[u32]) -> Result<Vec<u32>, AllocError>
-    requires { length nexts.now < 4294967295 }
+    requires bound { length nexts.now < 4294967295 }
+    requires permuted { ArePermuted nexts.now }
     ensures { IfOk result (λ leaders. leaders.items ≡ leaders_from nexts.now 0 nexts.now) }
 {
+    let mut marks = vec![in alloc; false; nexts.len()]?;
     let mut leaders = Vec::new(alloc);
     for (i, next) in nexts.iter().enumerate() {
         let _next = *next;
-        if is_leader(nexts, i as u32) {
+        if !marks[i] {
             leaders.push(i as u32)?;
+            put_cycle(&mut marks, nexts, i as u32);
         }
     }
     Ok(leaders)

@@ -8,8 +8,8 @@ use thiserror::Error;
 #[derive(Clone, Copy, Debug, PartialEq, Eq, Error)]
 pub enum FaceFault {
     /// The least half-edge, by its start, then its direction, after which a face turns by more than 7 steps
-    /// of 22.5
-    /// degrees to the left; where there is none, the least one of a face whose turns don't add to 16 steps.
+    /// of 22.5 degrees to the left; where there is none, the least one of a face whose turns don't add to
+    /// 16 steps.
     #[error("a face is not convex: {direction:?} from {at:?}")]
     NotConvex { at: Point, direction: Dir },
     /// There are more than 256 faces.

@@ -11,8 +11,7 @@ use plane_geometry::{Dir, Point, direction};
 use std::alloc::{AllocError, Global};
 
 /// A piece in one of its two directions, or a part of the border between neighbouring vertices,
-/// counterclockwise.
-/// Half-edges are ordered by `start`, then by `dir`, then by the rest.
+/// counterclockwise. Half-edges are ordered by `start`, then by `dir`, then by the rest.
 #[derive(Clone, Copy, Debug, PartialEq, Eq, PartialOrd, Ord)]
 pub struct HalfEdge {
     pub start: Point,

@@ -1,9 +1,14 @@
 //! The faces of a crease pattern.
 #![tactic(auto)]
 
-ghost use Rattle.std.specs.Prelude.{◌≡◌, ◌↔◌, ℕ, ◌<◌, length, None, MatchResult, IfOk, IsErrOf};
+ghost use Rattle.std.specs.Prelude.{◌≡◌, ◌↔◌, ℕ, ◌<◌, length, None, Contains, MatchResult, IfOk, IsErrOf};
 ghost use Rattle.std.specs.Option.{option_map};
+ghost use Rattle.face_builder.specs.Cycle.{ArePermuted};
+ghost use Rattle.face_builder.specs.Fan.{nexts_of};
 ghost use Rattle.face_builder.specs.SideFill.{half_edges_of_each};
+ghost use Rattle.face_builder.specs.HalfEdge.{half_edges_of};
+ghost use Rattle.face_builder.specs.HalfEdgeKinds.{IsHalfEdge};
+ghost use Rattle.face_builder.specs.declared.half_edges.HalfEdge.{HalfEdge};
 ghost use Rattle.face_builder.specs.MapRules.{AreFaces};
 ghost use Rattle.face_builder.specs.Round.{AreRoundsOf};
 ghost use Rattle.face_builder.specs.View.{corners_at};
@@ -80,7 +85,8 @@ fn not_convex(half_edge: HalfEdge) -> FaceFault
 // The faces as their half-edges, where each is convex.
 #[tactic(auto, unfolding(crate::specs::Faces::faces_among))]
 fn convex_faces(alloc: Global, half_edges: &[HalfEdge]) -> Result<Vec<Vec<HalfEdge>>, FaceFault>
-    requires { length half_edges.now < 4294967295 }
+    requires bound { length half_edges.now < 4294967295 }
+    requires permuted { ArePermuted (nexts_of half_edges.now) }
     ensures value { MatchResult result
         (λ faces. (convex_refusal half_edges.now ≡ None)
         × (half_edges_of_each faces.items ≡ faces_among half_edges.now))
@@ -134,14 +140,16 @@ fn map_of(alloc: Global, pattern: &Pattern) -> Result<FaceMap, FaceFault>
 {
     // tells the rules of the sheet
     let _ = pattern.sheet();
+    let pieces = pattern.pieces();
     let half_edges = half_edges_of(alloc, pattern)?;
     let faces = convex_faces(alloc, half_edges.as_slice())?;
-    map_among(alloc, faces.as_slice(), pattern.pieces())
+    map_among(alloc, faces.as_slice(), pieces)
 }
 
 /// The faces of a pattern.
 pub fn faces(alloc: Global, pattern: &Pattern) -> Result<FaceMap, FaceFault>
     ensures rules { IfOk result (λ m. AreFaces m) }
+    ensures half_edges { (h : HalfEdge) → Contains (half_edges_of pattern.now) h ↔ IsHalfEdge pattern.now h }
     ensures partition { IfOk result (λ m. AreRoundsOf pattern.now m) }
     ensures not_convex { (at : Point) (direction : Dir) → IsErrOf result (NotConvex at direction)
         ↔ (HasMemory result × IsNotConvexAt pattern.now at direction) }

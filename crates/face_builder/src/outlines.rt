@@ -2,6 +2,7 @@
 
 ghost use Rattle.std.specs.Prelude.{◌≡◌, ◌≤◌, ◌<◌, ◌++◌, length, map, slice_get, slice_index_or, IfOk, OnOk};
 ghost use Rattle.std.specs.Option.{option_map};
+ghost use Rattle.face_builder.specs.Cycle.{ArePermuted};
 ghost use Rattle.face_builder.specs.View.{corners_at};
 ghost use Rattle.face_builder.specs.Faces.{half_edge_in, half_edges_at, led_face, led_faces, corners_of};
 ghost use Rattle.face_builder.specs.SideFill.{half_edges_of_each};
@@ -79,7 +80,8 @@ pub fn led_faces(
     half_edges: &[HalfEdge],
     nexts: &[u32],
 ) -> Result<Vec<Vec<HalfEdge>>, AllocError>
-    requires { length nexts.now < 4294967295 }
+    requires bound { length nexts.now < 4294967295 }
+    requires permuted { ArePermuted nexts.now }
     ensures value { IfOk result
         (λ faces. half_edges_of_each faces.items ≡ led_faces half_edges.now nexts.now) }
     ensures bound { IfOk result (λ faces. length faces.items < 4294967295) }

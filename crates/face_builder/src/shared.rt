@@ -38,8 +38,7 @@ fn with_side(sides: Sides, face: u32, rising: bool) -> Sides
     ensures { result
         ≡ record {
           left = first_number sides.left rising face;
-          right =
-              first_number sides.right (not rising) face;
+          right = first_number sides.right (not rising) face;
         } }
 {
     let mut sides = sides;
@@ -100,8 +99,7 @@ fn sides_of(alloc: Global, faces: &[Vec<HalfEdge>], pieces: usize) -> Result<Vec
         → slice_index_or sides.items k d
         ≡ record {
           left = left_face (half_edges_of_each faces.now) (k + 1);
-          right =
-              right_face (half_edges_of_each faces.now) (k + 1);
+          right = right_face (half_edges_of_each faces.now) (k + 1);
         }) }
 {
     let nothing = Sides { left: 0, right: 0 };

@@ -6,6 +6,7 @@ use Rattle.face_builder.specs.declared.faults.FaceFault.{FaceFault}
 use Rattle.crease_model.specs.View.{PatternView}
 use Rattle.std.specs.Prelude.{IfOk, MatchResult}
 use Rattle.std.specs.declared.result.Result.{Result}
+use Rattle.face_builder.proofs.KindLaws.{half_edges_are}
 use Rattle.face_builder.proofs.Refusals.{not_convex_where, too_many_where, unreached_where}
 use Rattle.face_builder.proofs.RoundLaws.{map_rounds}
 use Rattle.face_builder.proofs.faces.Goals as goal
@@ -17,6 +18,10 @@ if_map : (pattern : PatternView) (result : Result FaceMapView FaceFault) (P : Fa
     → IfOk result P
 if_map pattern (Ok m) P holds exact = subst P (sym exact.1) holds
 if_map pattern (Err e) P holds exact = tt
+
+pub returns-clause-half_edges : goal.returns-clause-half_edges
+returns-clause-half_edges c =
+    half_edges_are c.args.pattern.now c.sheet.ensures.rules c.pieces.ensures.rules
 
 pub returns-clause-partition : goal.returns-clause-partition
 returns-clause-partition c =

@@ -18,5 +18,5 @@ returns-clause-bound c =
       ap length same,
       length-map c.in_ok-faces.faces.items (λ face. face.items),
       faces_count hs nexts,
-      c.requires,
+      c.requires.bound,
     )
