@@ -25,6 +25,7 @@ mod RoundLaws
 mod Rounds
 mod SharedLaws
 mod ShortWalk
+mod SideEnds
 mod SideFills
 mod Sheets
 mod Sides

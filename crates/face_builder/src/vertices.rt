@@ -1,6 +1,6 @@
 //! Vertices: the corners of the sheet and the ends of the pieces.
 
-ghost use Rattle.std.specs.Prelude.{◌≡◌, ◌∷◌, ◌++◌, [], IfOk, OnOk};
+ghost use Rattle.std.specs.Prelude.{◌≡◌, ◌∷◌, ◌++◌, [], Some, IfOk, OnOk};
 ghost use Rattle.std.specs.List.{flat_map};
 ghost use Rattle.plane_geometry.specs.Position.{position_of};
 ghost use Rattle.plane_geometry.specs.SegmentOf.{segment_of};
@@ -19,32 +19,52 @@ fn is_same(p: &Point, q: &Point) -> bool
 }
 
 // Whether the point is on the side from one corner to another, and not at an end of it.
-fn is_between(start: &Point, end: &Point, v: &Point) -> bool
+fn is_between(side: &Segment, start: &Point, end: &Point, v: &Point) -> bool
+    requires { segment_of start.now end.now ≡ Some side.now }
     ensures { result ≡ is_between (record { start = start.now; end = end.now }) v.now }
 {
-    match Segment::new(start, end) {
-        Ok(side) => on_segment(v, &side) && !is_same(v, start) && !is_same(v, end),
-        Err(_) => false,
-    }
+    on_segment(v, side) && !is_same(v, start) && !is_same(v, end)
 }
 
 // Appends the point, if it is between the ends of the side.
 fn push_between(
     points: &mut Vec<Point>,
+    side: &Segment,
     start: &Point,
     end: &Point,
     v: &Point,
 ) -> Result<(), AllocError>
+    requires { segment_of start.now end.now ≡ Some side.now }
     ensures { OnOk result (points.new.items ≡ points.old.items
         ++ point_between (record { start = start.now; end = end.now }) v.now) }
 {
-    if is_between(start, end, v) {
+    if is_between(side, start, end, v) {
         points.push(*v)?;
     }
     Ok(())
 }
 
 // Appends the ends of pieces that are between the ends of the side.
+fn push_ends_on(
+    points: &mut Vec<Point>,
+    side: &Segment,
+    start: &Point,
+    end: &Point,
+    pieces: &[Piece],
+) -> Result<(), AllocError>
+    requires { segment_of start.now end.now ≡ Some side.now }
+    ensures { OnOk result (points.new.items ≡ points.old.items
+        ++ flat_map (ends_between (record { start = start.now; end = end.now })) pieces.now) }
+{
+    for piece in pieces {
+        push_between(points, side, start, end, piece.segment.from())?;
+        push_between(points, side, start, end, piece.segment.to())?;
+    }
+    Ok(())
+}
+
+// The same, where the corners may be no ends of a segment, with nothing between them.
+#[tactic(auto, using(crate::proofs::SideEnds::none_added))]
 fn push_ends_between(
     points: &mut Vec<Point>,
     start: &Point,
@@ -54,11 +74,10 @@ fn push_ends_between(
     ensures { OnOk result (points.new.items ≡ points.old.items
         ++ flat_map (ends_between (record { start = start.now; end = end.now })) pieces.now) }
 {
-    for piece in pieces {
-        push_between(points, start, end, piece.segment.from())?;
-        push_between(points, start, end, piece.segment.to())?;
+    match Segment::new(start, end) {
+        Ok(side) => push_ends_on(points, &side, start, end, pieces),
+        Err(_) => Ok(()),
     }
-    Ok(())
 }
 
 // Appends the points that are not the same as the one before.
