@@ -4,5 +4,6 @@ mod InsideRegions
 mod Convexity
 mod Refusals
 mod SignPlaces
+mod PairPlaces
 mod FixedRuleLists
 mod FixedRulesOn

@@ -3,6 +3,7 @@
 
 mod creases;
 mod face_pairs;
+mod places;
 mod regions;
 #[cfg(test)]
 mod shapes;

@@ -1,5 +1,6 @@
 //! Pairs and rules of folded shapes, worked with exact fractions in another language.
 
+use crate::places::place;
 use crate::shapes::{Row, shape, stack};
 use crate::{FacePair, PairsFault, crease_rules, pairs};
 use crease_model::Kind::{Mountain, Valley};
@@ -35,6 +36,23 @@ fn finds_pairs_and_crease_rules(rt: HostRuntime) -> Result<(), Fail> {
             assert!(rt; are_pairs(found.as_slice(), row.pairs));
             let rules = crease_rules(rt.alloc(), &folded, row.kinds, found.as_slice())?;
             assert!(rt; are_fixed(rules.as_slice(), row.fixed));
+        }
+    }
+    Ok(())
+}
+
+#[test]
+fn finds_places_as_a_scan_does(rt: HostRuntime) -> Result<(), Fail> {
+    for row in [TOUCHING, WATERBOMB] {
+        let folded = shape(rt.alloc(), &row)?;
+        if folded.faces().len() <= 65536 {
+            let found = pairs(&rt, rt.alloc(), &folded)?;
+            for i in 0..8 {
+                for j in 0..8 {
+                    let scanned = found.iter().position(|pair| pair.i == i && pair.j == j);
+                    assert_eq!(rt; place(found.as_slice(), i, j), scanned);
+                }
+            }
         }
     }
     Ok(())
