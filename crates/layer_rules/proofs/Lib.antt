@@ -7,3 +7,6 @@ mod SignPlaces
 mod PairPlaces
 mod FixedRuleLists
 mod FixedRulesOn
+mod CircleLists
+mod CirclePlaces
+mod CircleRules

@@ -3,7 +3,9 @@ pub mod FacePairs
 pub mod Answer
 pub mod Above
 pub mod CreaseCondition
+pub mod Transitivity
 pub mod RuleLists
 pub mod Insides
 pub mod Candidates
 pub mod FixedRules
+pub mod Circles

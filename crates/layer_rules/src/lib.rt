@@ -1,6 +1,7 @@
 //! Which folded faces lie on one another, and the rules that any order of these layers has to meet.
 #![tactic(auto)]
 
+mod circles;
 mod creases;
 mod face_pairs;
 mod places;
@@ -10,5 +11,6 @@ mod shapes;
 #[cfg(test)]
 mod tests;
 
+pub use circles::transitivity_rules;
 pub use creases::crease_rules;
 pub use face_pairs::{FacePair, PairsFault, pairs};

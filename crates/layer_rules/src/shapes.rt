@@ -22,7 +22,8 @@ pub(crate) type Place = (Parts, Parts);
 /// A crease piece: its number, its faces and the ends of its image.
 pub(crate) type Crease = (u32, u32, u32, Place, Place);
 
-/// A folded shape, the kinds of its pieces, its pairs, and the signs that its creases give these.
+/// A folded shape, the kinds of its pieces, its pairs, the signs that its creases give these, and, for each three faces
+/// with a point in common, the places of their pairs ij, jk and ik.
 #[derive(Clone, Copy)]
 pub(crate) struct Row {
     pub faces: &'static [(bool, &'static [Place])],
@@ -30,6 +31,7 @@ pub(crate) struct Row {
     pub kinds: &'static [Kind],
     pub pairs: &'static [(u32, u32)],
     pub fixed: &'static [(u32, Sign)],
+    pub circles: &'static [(u32, u32, u32)],
 }
 
 fn point(place: Place) -> Result<Point, OutOfRange> {

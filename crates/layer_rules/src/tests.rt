@@ -2,7 +2,7 @@
 
 use crate::places::place;
 use crate::shapes::{Row, shape, stack};
-use crate::{FacePair, PairsFault, crease_rules, pairs};
+use crate::{FacePair, PairsFault, crease_rules, pairs, transitivity_rules};
 use crease_model::Kind::{Mountain, Valley};
 use sign_rules::Rule;
 use sign_rules::Sign::{self, Over, Under};
@@ -25,8 +25,18 @@ fn are_fixed(rules: &[Rule], wanted: &[(u32, Sign)]) -> bool {
             })
 }
 
+fn are_circles(rules: &[Rule], wanted: &[(u32, u32, u32)]) -> bool {
+    rules.len() == wanted.len()
+        && rules.iter().zip(wanted).all(|(rule, row)| *rule
+            == Rule::NotCyclic {
+                ij: row.0,
+                jk: row.1,
+                ik: row.2,
+            })
+}
+
 #[test]
-fn finds_pairs_and_crease_rules(rt: HostRuntime) -> Result<(), Fail> {
+fn finds_pairs_and_rules(rt: HostRuntime) -> Result<(), Fail> {
     for row in [
         TOUCHING, STRIPS, CROSS, WATERBOMB, FAN_1, FAN_2, FAN_3, FAN_4,
     ] {
@@ -36,6 +46,8 @@ fn finds_pairs_and_crease_rules(rt: HostRuntime) -> Result<(), Fail> {
             assert!(rt; are_pairs(found.as_slice(), row.pairs));
             let rules = crease_rules(rt.alloc(), &folded, row.kinds, found.as_slice())?;
             assert!(rt; are_fixed(rules.as_slice(), row.fixed));
+            let circles = transitivity_rules(rt.alloc(), &folded, found.as_slice())?;
+            assert!(rt; are_circles(circles.as_slice(), row.circles));
         }
     }
     Ok(())
@@ -117,6 +129,7 @@ const TOUCHING: Row = Row {
     kinds: &[Valley, Valley],
     pairs: &[(1, 2), (2, 3)],
     fixed: &[(0, Under), (1, Over)],
+    circles: &[],
 };
 
 /// Three mountains that part the square into four strips of one width.
@@ -185,6 +198,7 @@ const STRIPS: Row = Row {
     kinds: &[Mountain, Mountain, Mountain],
     pairs: &[(1, 2), (1, 3), (1, 4), (2, 3), (2, 4), (3, 4)],
     fixed: &[(0, Over), (3, Under), (5, Over)],
+    circles: &[(0, 3, 1), (0, 4, 2), (1, 5, 2), (3, 5, 4)],
 };
 
 /// A cross of three mountains and a valley.
@@ -236,6 +250,7 @@ const CROSS: Row = Row {
     kinds: &[Mountain, Mountain, Mountain, Valley],
     pairs: &[(1, 2), (1, 3), (1, 4), (2, 3), (2, 4), (3, 4)],
     fixed: &[(0, Over), (1, Over), (4, Under), (5, Over)],
+    circles: &[(0, 3, 1), (0, 4, 2), (1, 5, 2), (3, 5, 4)],
 };
 
 /// The waterbomb base.
@@ -332,6 +347,16 @@ const WATERBOMB: Row = Row {
         (8, Over),
         (10, Over),
     ],
+    circles: &[
+        (0, 5, 1),
+        (0, 6, 2),
+        (1, 7, 2),
+        (2, 8, 3),
+        (2, 9, 4),
+        (3, 10, 4),
+        (5, 7, 6),
+        (8, 10, 9),
+    ],
 };
 
 /// Creases in the directions 0, 7, 13, 14 at the middle.
@@ -394,6 +419,7 @@ const FAN_1: Row = Row {
     kinds: &[Mountain, Mountain, Valley, Valley],
     pairs: &[(1, 2), (1, 3), (1, 4), (2, 3), (2, 4), (3, 4)],
     fixed: &[(0, Over), (1, Over), (4, Over), (5, Over)],
+    circles: &[(0, 3, 1), (0, 4, 2), (1, 5, 2), (3, 5, 4)],
 };
 
 /// Creases in the directions 4, 7, 9, 14 at the middle.
@@ -456,6 +482,7 @@ const FAN_2: Row = Row {
     kinds: &[Mountain, Mountain, Mountain, Mountain],
     pairs: &[(1, 2), (1, 3), (1, 4), (2, 3), (2, 4), (3, 4)],
     fixed: &[(0, Over), (2, Over), (3, Under), (5, Over)],
+    circles: &[(0, 3, 1), (0, 4, 2), (1, 5, 2), (3, 5, 4)],
 };
 
 /// Creases in the directions 0, 1, 3, 6, 7, 9, 13, 15 at the middle.
@@ -616,6 +643,32 @@ const FAN_3: Row = Row {
         (16, Over),
         (19, Under),
     ],
+    circles: &[
+        (0, 7, 1),
+        (0, 8, 2),
+        (1, 9, 2),
+        (2, 10, 3),
+        (2, 11, 4),
+        (2, 12, 5),
+        (2, 13, 6),
+        (3, 14, 4),
+        (3, 15, 5),
+        (3, 16, 6),
+        (4, 17, 5),
+        (4, 18, 6),
+        (5, 19, 6),
+        (7, 9, 8),
+        (10, 14, 11),
+        (10, 15, 12),
+        (10, 16, 13),
+        (11, 17, 12),
+        (11, 18, 13),
+        (12, 19, 13),
+        (14, 17, 15),
+        (14, 18, 16),
+        (15, 19, 16),
+        (17, 19, 18),
+    ],
 };
 
 /// Creases in the directions 1, 5, 10, 13, 14, 15 at the middle.
@@ -735,5 +788,27 @@ const FAN_4: Row = Row {
         (11, Under),
         (12, Over),
         (14, Over),
+    ],
+    circles: &[
+        (0, 5, 1),
+        (0, 6, 2),
+        (0, 7, 3),
+        (0, 8, 4),
+        (1, 9, 2),
+        (1, 10, 3),
+        (1, 11, 4),
+        (2, 12, 3),
+        (2, 13, 4),
+        (3, 14, 4),
+        (5, 9, 6),
+        (5, 10, 7),
+        (5, 11, 8),
+        (6, 12, 7),
+        (6, 13, 8),
+        (7, 14, 8),
+        (9, 12, 10),
+        (9, 13, 11),
+        (10, 14, 11),
+        (12, 14, 13),
     ],
 };
