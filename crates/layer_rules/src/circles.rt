@@ -12,7 +12,7 @@ ghost use Rattle.layer_rules.specs.Circles.{IsCommon, AreOrdered, AreCirclesBefo
 
 use crate::face_pairs::FacePair;
 use crate::places::place;
-use crate::regions::{insides, overlap};
+use crate::regions::{have_common_point, insides};
 use isometry_map::Folded;
 use open_region::Region;
 use sign_rules::Rule;
@@ -112,7 +112,7 @@ fn push_circle(
     let Some(q) = place(pairs, pair.j, other.j) else {
         return Ok(());
     };
-    if !overlap(common, &insides[other.j as usize - 1]) {
+    if !have_common_point(common, &insides[other.j as usize - 1]) {
         return Ok(());
     }
     rules.push(Rule::NotCyclic {

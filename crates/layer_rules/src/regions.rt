@@ -36,8 +36,20 @@ pub(crate) fn insides(alloc: Global, faces: &[FoldedFace]) -> Result<Vec<Region>
     Ok(insides)
 }
 
-/// Whether some point of the plane is in both regions.
+/// Whether some point of the plane is in both regions. Where opposite lines of the two leave nothing between them, their
+/// offsets alone show that there is none.
 pub(crate) fn overlap(first: &Region, second: &Region) -> bool
+    ensures { IsTrue result ↔
+        ((p : Position) × IsInRegion p first.now × IsInRegion p second.now) }
+{
+    if first.is_apart(second) {
+        return false;
+    }
+    have_common_point(first, second)
+}
+
+/// Whether some point of the plane is in both regions, with no look at their offsets before.
+pub(crate) fn have_common_point(first: &Region, second: &Region) -> bool
     ensures { IsTrue result ↔
         ((p : Position) × IsInRegion p first.now × IsInRegion p second.now) }
 {

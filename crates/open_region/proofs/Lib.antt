@@ -7,3 +7,4 @@ pub mod Heights
 pub mod Narrowing
 pub mod Ends
 pub mod Cuts
+pub mod Apart

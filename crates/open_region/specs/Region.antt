@@ -1,5 +1,6 @@
 -- Open regions: for each of the 16 directions at most one line, and the points strictly left of all lines.
-use Rattle.std.specs.Prelude.{◌≡◌, ℕ, ◌<◌, Option, None, IfSome, IsTrue, option_map, nat_lt, slice_index_or, if◌then◌else◌}
+use Rattle.std.specs.Prelude.{◌≡◌, ℕ, ◌+◌, ◌<◌, ◌⊎◌, Option, None, IfSome, IsTrue, option_map, nat_lt, slice_index_or, if◌then◌else◌}
+use Rattle.std.specs.Option.{IsSomeAnd}
 use Rattle.surd_number.specs.declared.Sgn.TheVariants.{Pos}
 use Rattle.surd_number.specs.Number.{Number, IsSame, IsLess, negative_of}
 use Rattle.plane_geometry.specs.Position.{Position, cross_of}
@@ -68,3 +69,16 @@ IsHeight r y = (x : Number) × IsInRegion (record { x = x; y = y }) r
 -- some point strictly between the ends of s is in r
 abbrev pub HasPointBetween : Region → Segment → Type 0
 HasPointBetween r s = (p : Position) × IsTrue (is_between p (stretch_of s)) × IsInRegion p r
+
+-- the line of r opposite to direction n is there, and nothing is between it and an edge in direction n
+abbrev pub LeavesNothing : Region → ℕ → Edge → Type 0
+LeavesNothing r n right =
+    IsSomeAnd (edge_at r (n + 8)) (λ left. ¬ IsLess (line_offset_of right) (line_offset_of left))
+
+-- the line of r in direction n and that of s in the opposite direction are there, and nothing is between them
+abbrev pub LeaveNothing : Region → Region → ℕ → Type 0
+LeaveNothing r s n = IsSomeAnd (edge_at r n) (LeavesNothing s n)
+
+-- in some direction one region's line and the other's opposite line leave nothing between them
+abbrev pub AreApart : Region → Region → Type 0
+AreApart r s = (n : ℕ) × (n < 8) × (LeaveNothing r s n ⊎ LeaveNothing s r n)

@@ -96,6 +96,13 @@ impl Edge {
         }
     }
 
+    /// Whether something is strictly left of this line and strictly right of the other, in one direction 0 to 7.
+    pub(crate) fn leaves_room(&self, other: &Edge) -> bool
+        ensures { IsTrue result ↔ IsLess (line_offset_of self.now) (line_offset_of other.now) }
+    {
+        is_less(&self.offset, &other.offset)
+    }
+
     /// Whether the point is strictly left of the line, taken in direction `n`.
     pub(crate) fn admits(&self, n: u8, p: &Point) -> bool
         requires { n < 16 }

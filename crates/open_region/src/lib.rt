@@ -28,7 +28,7 @@ impl Region {
     ghost use Rattle.surd_number.specs.Number.{Number};
     ghost use Rattle.open_region.specs.EdgeView.{line_offset_of};
     ghost use Rattle.open_region.specs.Interval.{IsInInterval};
-    ghost use Rattle.open_region.specs.Region.{edge_at, IsLeftOf, IsLeftOfEdge, IsLeftOfLine, IsTighter, IsInRegion, HasPoint, HasPointBetween, IsHeight};
+    ghost use Rattle.open_region.specs.Region.{edge_at, IsLeftOf, IsLeftOfEdge, IsLeftOfLine, IsTighter, IsInRegion, HasPoint, HasPointBetween, IsHeight, LeavesNothing, LeaveNothing, AreApart};
     ghost use Rattle.open_region.specs.Strip.{point_along, IsLevel, IsCrossed, HoldsAcross, HoldsAcrossAll};
 
     /// The whole plane.
@@ -76,6 +76,20 @@ impl Region {
         ensures { IsTrue result ↔ HasPoint self.now }
     {
         self.heights().has_number()
+    }
+
+    /// Whether in some direction a line of one region and the opposite line of the other leave nothing between them, so
+    /// that no point is in both. It compares offsets alone; regions without a common point need not have such lines.
+    pub fn is_apart(&self, other: &Region) -> bool
+        ensures lines { IsTrue result ↔ AreApart self.now other.now }
+        ensures apart { IsTrue result → (q : Position) → IsInRegion q self.now → ¬ IsInRegion q other.now }
+    {
+        for n in 0..8 {
+            if self.leaves_nothing(n, other) || other.leaves_nothing(n, self) {
+                return true;
+            }
+        }
+        false
     }
 
     /// Whether the point is in the region.
@@ -150,6 +164,28 @@ impl Region {
         match &other.edges[n as usize] {
             None => {}
             Some(edge) => self.narrow(n, edge),
+        }
+    }
+
+    /// Whether the line in direction `n` and the other region's opposite line leave nothing between them.
+    fn leaves_nothing(&self, n: u8, other: &Region) -> bool
+        requires { n < 8 }
+        ensures { IsTrue result ↔ LeaveNothing self.now other.now n }
+    {
+        match &self.edges[n as usize] {
+            None => false,
+            Some(right) => other.ends_before(n, right),
+        }
+    }
+
+    /// Whether the line opposite to direction `n` leaves nothing beside an edge in direction `n`.
+    fn ends_before(&self, n: u8, right: &Edge) -> bool
+        requires { n < 8 }
+        ensures { IsTrue result ↔ LeavesNothing self.now n right.now }
+    {
+        match &self.edges[(n + 8) as usize] {
+            None => false,
+            Some(left) => !right.leaves_room(left),
         }
     }
 

@@ -125,6 +125,28 @@ fn tells_polygons_that_overlap(rt: HostRuntime) -> Result<(), Fail> {
 }
 
 #[test]
+fn tells_regions_apart_by_opposite_lines(rt: HostRuntime) -> Result<(), Fail> {
+    let left = triangle((NOUGHT, NOUGHT), (ONE, NOUGHT), (ONE, ONE))?;
+    let touching = triangle((ONE, NOUGHT), ((2, 0, 0), NOUGHT), (ONE, ONE))?;
+    let across = triangle((NOUGHT, NOUGHT), (ONE, ONE), (NOUGHT, ONE))?;
+    let beyond = triangle(((2, 0, 0), ONE), ((3, 0, 0), ONE), ((3, 0, 0), (2, 0, 0)))?;
+    // (first, second, whether lines alone tell that they have no common point)
+    for (first, second, expected) in [
+        (&left, &touching, true),
+        (&left, &across, true),
+        (&left, &left, false),
+        (&touching, &across, false),
+        (&left, &beyond, false),
+    ] {
+        if let (Some(first), Some(second)) = (first, second) {
+            assert_eq!(rt; first.is_apart(second), expected);
+            assert_eq!(rt; second.is_apart(first), expected);
+        }
+    }
+    Ok(())
+}
+
+#[test]
 fn tells_segments_that_enter(rt: HostRuntime) -> Result<(), Fail> {
     let square = region(&[
         (0, NOUGHT, NOUGHT),

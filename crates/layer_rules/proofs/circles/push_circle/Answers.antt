@@ -20,8 +20,8 @@ returns-in_default c =
     circle_skip insides pairs c.requires.pairs.ascending p t c.args.rules.now.items
     (no_middle insides pairs c.requires.pairs.ascending p t pair other e f c.in_default.ensures) c.requires.before
 
-pub returns-then-not-overlap : goal.returns-then-not-overlap
-returns-then-not-overlap c =
+pub returns-then-not-have_common_point : goal.returns-then-not-have_common_point
+returns-then-not-have_common_point c =
     let insides = c.args.insides.now in
     let pairs = c.args.pairs.now in
     let p = c.args.p in
@@ -36,7 +36,7 @@ returns-then-not-overlap c =
     circle_skip insides pairs c.requires.pairs.ascending p t c.args.rules.now.items
     (no_point insides pairs c.requires.pairs.ascending p t pair other e f c.args.common.now region
     (c.requires.common pair e) at
-    (λ point. false≢true (sym c.if-not-overlap.true ∙ c.overlap.ensures.1 point))) c.requires.before
+    (λ point. false≢true (sym c.if-not-have_common_point.true ∙ c.have_common_point.ensures.1 point))) c.requires.before
 
 pub overflow_cast-q : goal.overflow_cast-q
 overflow_cast-q c =
@@ -62,7 +62,7 @@ returns c =
     let lower = in_range_at (length insides) pairs p pair c.requires.pairs e in
     let at = numbered_at insides other.j region (omega (arith, within.0, within.1)) within.2 c.index-insides-other.is in
     let circle = one_circle insides pairs up p t pair other e f c.args.common.now region c.in-Some.q
-    (c.requires.common pair e) at (c.overlap.ensures.0 c.if-not-overlap.false) c.requires.later
+    (c.requires.common pair e) at (c.have_common_point.ensures.0 c.if-not-have_common_point.false) c.requires.later
     (c.requires.one_face pair other e f) lower.1 c.in-Some.ensures in
     subst (λ (l : List Rule). AreCirclesBefore insides pairs p (t + 1) l) (sym c.in_ok-push.ensures.items)
     (circle_push insides pairs up p c.in-Some.q t c.args.rules.now.items circle c.requires.before)

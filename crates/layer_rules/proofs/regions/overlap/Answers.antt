@@ -1,9 +1,8 @@
+use Rattle.std.proofs.lemmas.Bool.{false≢true}
 use Rattle.layer_rules.proofs.regions.overlap.Goals as goal
 
-pub returns : goal.returns
-returns c =
-    let tells = c.is_open_nonempty.ensures in
-    let common = c.both.ensures in (
-      λ yes. let h = tells.0 yes in (h.0, ((common h.0).0 h.1).0, ((common h.0).0 h.1).1),
-      λ x. tells.1 (x.0, (common x.0).1 (x.1, x.2)),
-    )
+pub returns-then-is_apart : goal.returns-then-is_apart
+returns-then-is_apart c = (
+  λ yes. absurd (false≢true yes),
+  λ x. absurd (c.is_apart.ensures.apart c.if-is_apart.true x.0 x.1 x.2),
+)
