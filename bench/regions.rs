@@ -1,5 +1,5 @@
-//! The tests of crates/bench_regions in plain Rust, by the same elimination: the word is the number of rounds, and the
-//! checksum is printed.
+//! The measures of crates/bench_regions in plain Rust, by the same elimination: `ROUNDS`, `pairs FACES ROUNDS` or
+//! `triples FACES ROUNDS`. The checksum is printed.
 
 use std::hint::black_box;
 
@@ -41,6 +41,17 @@ const RIGHT: [(i32, i32); 16] = [
     (-2, -1),
     (-1, -1),
     (-1, -2),
+];
+
+const SIDES: [&[u8]; 8] = [
+    &[0, 4, 8, 12],
+    &[0, 6, 12],
+    &[2, 6, 10, 14],
+    &[0, 4, 10],
+    &[0, 4, 8, 12],
+    &[4, 8, 14],
+    &[0, 5, 8, 13],
+    &[2, 8, 12],
 ];
 
 /// The coordinates of directions 0 to 7: a whole number and a multiple of `sqrt 2 - 1`.
@@ -261,6 +272,15 @@ impl Region {
         region
     }
 
+    /// Whether in some direction a line of one and the opposite one of the other leave nothing between them.
+    fn is_apart(&self, other: &Region) -> bool {
+        let ends_before = |first: &Region, second: &Region, n: usize| match (&first.edges[n], &second.edges[n + 8]) {
+            (Some(right), Some(left)) => !right.offset.is_less(left.offset),
+            _ => false,
+        };
+        (0..8).any(|n| ends_before(self, other, n) || ends_before(other, self, n))
+    }
+
     fn is_open_nonempty(&self) -> bool {
         let zero = Wide { a: 0, b: 0, k: 0 };
         let mut heights = Interval {
@@ -296,16 +316,73 @@ fn face(x: i32, y: i32, radius: i32, step: u8) -> Region {
     region
 }
 
-fn main() {
-    let rounds: u32 = std::env::args().nth(1).map_or(1, |w| w.parse().expect("a number of rounds"));
-    let faces: Vec<Region> = FACES.iter().map(|&(x, y, radius, step)| face(x, y, radius, step)).collect();
-    let mut sum: u64 = 0;
-    for _ in 0..rounds {
-        for first in black_box(&faces) {
-            for second in &faces {
-                let answer = first.both(second).is_open_nonempty();
-                sum = sum.wrapping_mul(FACTOR).wrapping_add(u64::from(answer));
+fn crowded(n: u32) -> Region {
+    let (x, y, radius) = ((n * 29 % 103) as i32, ((n * n * 7 + n * 31) % 101) as i32, 8 + (n % 5) as i32);
+    let mut region = Region { edges: [None; 16] };
+    for &n in SIDES[n as usize % 8] {
+        let (u, v) = RIGHT[n as usize];
+        region.narrow(n as usize, &Edge::through(n, x + u * radius, y + v * radius));
+    }
+    region
+}
+
+fn meet(first: &Region, second: &Region) -> bool {
+    !first.is_apart(second) && first.both(second).is_open_nonempty()
+}
+
+fn crowd_round(crowd: &[Region], with_triples: bool, sum: u64) -> u64 {
+    let mut pairs: Vec<(usize, usize)> = Vec::new();
+    for (i, first) in crowd.iter().enumerate() {
+        for (j, second) in crowd.iter().enumerate().skip(i + 1) {
+            if meet(first, second) {
+                pairs.push((i, j));
             }
+        }
+    }
+    let mut sum = sum;
+    for (p, &(i, j)) in pairs.iter().enumerate() {
+        sum = sum.wrapping_mul(FACTOR).wrapping_add(i as u64).wrapping_mul(FACTOR).wrapping_add(j as u64);
+        if !with_triples {
+            continue;
+        }
+        let common = crowd[i].both(&crowd[j]);
+        for (t, &(other, k)) in pairs.iter().enumerate().skip(p + 1) {
+            if other != i {
+                break;
+            }
+            if pairs.binary_search(&(j, k)).is_ok() && common.both(&crowd[k]).is_open_nonempty() {
+                sum = sum.wrapping_mul(FACTOR).wrapping_add(t as u64);
+            }
+        }
+    }
+    sum
+}
+
+fn tests_round(faces: &[Region], sum: u64) -> u64 {
+    let mut sum = sum;
+    for first in faces {
+        for second in faces {
+            let answer = first.both(second).is_open_nonempty();
+            sum = sum.wrapping_mul(FACTOR).wrapping_add(u64::from(answer));
+        }
+    }
+    sum
+}
+
+fn main() {
+    let words: Vec<String> = std::env::args().skip(1).collect();
+    let number = |n: usize| words.get(n).map_or(1, |w| w.parse().expect("a number"));
+    let measure = words.first().map_or("", |w| w.as_str());
+    let mut sum: u64 = 0;
+    if measure == "pairs" || measure == "triples" {
+        let crowd: Vec<Region> = (0..number(1)).map(crowded).collect();
+        for _ in 0..number(2) {
+            sum = crowd_round(black_box(&crowd), measure == "triples", sum);
+        }
+    } else {
+        let faces: Vec<Region> = FACES.iter().map(|&(x, y, radius, step)| face(x, y, radius, step)).collect();
+        for _ in 0..number(0) {
+            sum = tests_round(black_box(&faces), sum);
         }
     }
     println!("{sum}");

@@ -62,15 +62,15 @@ threads() {
     ../crates/bench_board/out/bench_board "$1" histories | "$folder/board" || exit 1
 }
 
-# editing NAME ROUNDS: a measure of the proved program crates/bench_editing beside editing.rs.
-editing() {
-    local proved="../crates/bench_editing/out/bench_editing $1" plain="$folder/editing $1"
-    echo "== editing, $1, $2 rounds"
+# measure NAME WORDS ROUNDS: a measure of the proved program crates/bench_NAME beside NAME.rs, both built before.
+measure() {
+    local proved="../crates/bench_$1/out/bench_$1 $2" plain="$folder/$1 $2"
+    echo "== $1, $2, $3 rounds"
     if [ "$($proved 1)" != "$($plain 1)" ]; then
         echo "the checksums differ"
         exit 1
     fi
-    race /dev/null "$proved $2" "$plain $2" | awk '{
+    race /dev/null "$proved $3" "$plain $3" | awk '{
         printf "proved     %s s\nplain Rust %s s\nratio      %.2f\n", $1, $2, $1 / $2 }'
 }
 
@@ -78,10 +78,18 @@ editing() {
 all_editing() {
     (cd ../crates/bench_editing && rt run -- pieces 1) >"$folder/log" 2>&1 || { cat "$folder/log"; exit 1; }
     rustc -O --edition 2024 -o "$folder/editing" editing.rs || exit 1
-    editing crossing 200
-    editing lines 1
-    editing check 100
-    editing pieces 10
+    measure editing crossing 200
+    measure editing lines 1
+    measure editing check 100
+    measure editing pieces 10
+}
+
+# Pairs and triples of a crowd of faces, of the programs that `beside regions` built.
+crowds() {
+    measure regions "pairs 128" 200
+    measure regions "triples 128" 50
+    measure regions "pairs 256" 50
+    measure regions "triples 256" 10
 }
 
 # script KIND: about four million bytes of lines that are read whole and refused. Those of the kind zerolength end where
@@ -111,6 +119,7 @@ text() {
 
 beside numbers "$rounds"
 beside regions "$region_rounds"
+crowds
 all_editing
 threads "$board_runs"
 if [ -x "$editor" ]; then

@@ -1,5 +1,6 @@
-//! A measure of open regions at work: it tests all pairs of 16 fixed faces for a common point, as many times as its one word
-//! says (once where there is none), and prints a checksum of all answers.
+//! Measures of open regions at work, with a checksum of all answers: `ROUNDS` tests all pairs of 16 fixed faces for a common
+//! point, so many times (once where there is no word). `pairs FACES ROUNDS` finds the pairs of so many faces that have one,
+//! as the pairs of a folded shape are found, and `triples FACES ROUNDS` then the threes among these pairs that have one.
 #![tactic(auto)]
 
 use open_region::Region;
@@ -59,6 +60,21 @@ const RIGHT: [(i32, i32); 16] = [
     (-1, -2),
 ];
 
+/// The directions of the sides of the faces of a crowd: squares, triangles and parallelograms.
+const SIDES: [&[u8]; 8] = [
+    &[0, 4, 8, 12],
+    &[0, 6, 12],
+    &[2, 6, 10, 14],
+    &[0, 4, 10],
+    &[0, 4, 8, 12],
+    &[4, 8, 14],
+    &[0, 5, 8, 13],
+    &[2, 8, 12],
+];
+
+/// The greatest crowd.
+const MOST_FACES: u32 = 256;
+
 // The region of a face.
 fn face(x: i32, y: i32, radius: i32, step: u8) -> Region {
     let mut region = Region::whole();
@@ -75,6 +91,111 @@ fn face(x: i32, y: i32, radius: i32, step: u8) -> Region {
         }
     }
     region
+}
+
+// Face number n of a crowd.
+fn crowded(n: u32) -> Region {
+    let x = (n.wrapping_mul(29) % 103) as i32;
+    let y = (n
+        .wrapping_mul(n)
+        .wrapping_mul(7)
+        .wrapping_add(n.wrapping_mul(31))
+        % 101) as i32;
+    let radius = 8 + (n % 5) as i32;
+    let mut region = Region::whole();
+    for number in SIDES[(n % 8) as usize] {
+        if let Some(d) = Dir::new(*number) {
+            let (u, v) = RIGHT[d.number() as usize];
+            let p = Point {
+                x: Surd::whole(x.wrapping_add(u.wrapping_mul(radius))),
+                y: Surd::whole(y.wrapping_add(v.wrapping_mul(radius))),
+            };
+            region = region.cut(&p, d);
+        }
+    }
+    region
+}
+
+fn crowd(alloc: Global, faces: u32) -> Result<Vec<Region>, AllocError> {
+    let mut crowd = Vec::new(alloc);
+    for n in 0..faces.min(MOST_FACES) {
+        crowd.push(crowded(n))?;
+    }
+    Ok(crowd)
+}
+
+// Whether both have a common point.
+fn meet(first: &Region, second: &Region) -> bool {
+    !first.is_apart(second) && first.both(second).is_open_nonempty()
+}
+
+// Takes in the pairs of one face with each later one.
+fn push_row(
+    pairs: &mut Vec<(usize, usize)>,
+    crowd: &[Region],
+    i: usize,
+    first: &Region,
+) -> Result<(), AllocError> {
+    for (j, second) in crowd.iter().enumerate() {
+        if i < j && meet(first, second) {
+            pairs.push((i, j))?;
+        }
+    }
+    Ok(())
+}
+
+// The pairs of a crowd, in order.
+fn pairs(alloc: Global, crowd: &[Region]) -> Result<Vec<(usize, usize)>, AllocError> {
+    let mut pairs = Vec::new(alloc);
+    for (i, first) in crowd.iter().enumerate() {
+        push_row(&mut pairs, crowd, i, first)?;
+    }
+    Ok(pairs)
+}
+
+// Takes in the pair and each later face that both have a common point with.
+fn row_of_triples(crowd: &[Region], pairs: &[(usize, usize)], p: usize, sum: u64) -> u64 {
+    let Some(&(i, j)) = pairs.get(p) else {
+        return sum;
+    };
+    let (Some(first), Some(second)) = (crowd.get(i), crowd.get(j)) else {
+        return sum;
+    };
+    let common = first.both(second);
+    let mut sum = sum;
+    for (t, &(other, k)) in pairs.iter().enumerate().skip(p + 1) {
+        if other != i {
+            return sum;
+        }
+        if let Some(third) = crowd.get(k) {
+            if pairs.binary_search(&(j, k)).is_ok() && common.both(third).is_open_nonempty() {
+                sum = sum.wrapping_mul(FACTOR).wrapping_add(t as u64);
+            }
+        }
+    }
+    sum
+}
+
+// The checksum after a round of pairs, or of pairs and triples.
+fn crowd_round(
+    alloc: Global,
+    crowd: &[Region],
+    with_triples: bool,
+    sum: u64,
+) -> Result<u64, AllocError> {
+    let pairs = pairs(alloc, crowd)?;
+    let mut sum = sum;
+    for (p, &(i, j)) in pairs.iter().enumerate() {
+        sum = sum
+            .wrapping_mul(FACTOR)
+            .wrapping_add(i as u64)
+            .wrapping_mul(FACTOR)
+            .wrapping_add(j as u64);
+        if with_triples {
+            sum = row_of_triples(crowd, pairs.as_slice(), p, sum);
+        }
+    }
+    Ok(sum)
 }
 
 fn faces(alloc: Global) -> Result<Vec<Region>, AllocError> {
@@ -104,26 +225,86 @@ fn round(faces: &[Region], sum: u64) -> u64 {
     sum
 }
 
-// How many rounds the first word asks for.
-fn wanted<R: Env + Alloc>(rt: &R) -> u32 {
+/// What is measured.
+#[derive(Clone, Copy)]
+enum Measure {
+    Tests,
+    Pairs,
+    Triples,
+}
+
+/// What is measured, with how many faces, and how many times.
+#[derive(Clone, Copy)]
+struct Request {
+    measure: Measure,
+    faces: u32,
+    rounds: u32,
+}
+
+fn number(word: &str) -> u32 {
+    word.parse::<u32>().unwrap_or(1)
+}
+
+// What the words ask for.
+fn wanted<R: Env + Alloc>(rt: &R) -> Request {
+    let once = Request {
+        measure: Measure::Tests,
+        faces: 0,
+        rounds: 1,
+    };
     let Ok(mut arguments) = env::args(rt) else {
-        return 1;
+        return once;
     };
     let _name = arguments.next();
     let Some(word) = arguments.next() else {
-        return 1;
+        return once;
     };
-    word.as_str().parse::<u32>().unwrap_or(1)
+    let measure = match word.as_str() {
+        "pairs" => Measure::Pairs,
+        "triples" => Measure::Triples,
+        _ => Measure::Tests,
+    };
+    if let Measure::Tests = measure {
+        return Request {
+            measure,
+            faces: 0,
+            rounds: number(word.as_str()),
+        };
+    }
+    let faces = match arguments.next() {
+        Some(word) => number(word.as_str()),
+        None => 1,
+    };
+    let rounds = match arguments.next() {
+        Some(word) => number(word.as_str()),
+        None => 1,
+    };
+    Request {
+        measure,
+        faces,
+        rounds,
+    }
+}
+
+// The checksum of what is wanted.
+fn measured(alloc: Global, wanted: Request) -> Result<u64, AllocError> {
+    let sixteen = faces(alloc)?;
+    let crowd = crowd(alloc, wanted.faces)?;
+    let mut sum = 0;
+    for _ in 0..wanted.rounds {
+        sum = match wanted.measure {
+            Measure::Tests => round(sixteen.as_slice(), sum),
+            Measure::Pairs => crowd_round(alloc, crowd.as_slice(), false, sum)?,
+            Measure::Triples => crowd_round(alloc, crowd.as_slice(), true, sum)?,
+        };
+    }
+    Ok(sum)
 }
 
 fn main(rt: HostRuntime) -> ExitCode {
-    let Ok(faces) = faces(rt.alloc()) else {
+    let Ok(sum) = measured(rt.alloc(), wanted(&rt)) else {
         return ExitCode::from(NO_MEMORY);
     };
-    let mut sum = 0;
-    for _ in 0..wanted(&rt) {
-        sum = round(faces.as_slice(), sum);
-    }
     match println!(rt; "{sum}") {
         Ok(()) => ExitCode::SUCCESS,
         Err(_) => ExitCode::from(NOT_WRITTEN),
