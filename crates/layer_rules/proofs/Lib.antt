@@ -10,3 +10,6 @@ mod FixedRulesOn
 mod CircleLists
 mod CirclePlaces
 mod CircleRules
+mod RulesMade
+mod PlacedSigns
+mod TortillaRules

@@ -24,6 +24,10 @@ pub record IsPairList (shape : FoldedView) (pairs : List FacePair) : Type 0 wher
 abbrev pub HasPairCount : FoldedView → ℕ → Type 0
 HasPairCount shape n = (pairs : List FacePair) × IsPairList shape pairs × (length pairs ≡ n)
 
+-- f and g are a pair of the shape, whichever is the lesser
+abbrev pub ArePair : FoldedView → ℕ → ℕ → Type 0
+ArePair shape f g = IsFacePair shape (record { i = f; j = g }) ⊎ IsFacePair shape (record { i = g; j = f })
+
 abbrev pub most_pairs : ℕ
 most_pairs = 8192
 

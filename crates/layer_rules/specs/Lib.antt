@@ -9,3 +9,6 @@ pub mod Insides
 pub mod Candidates
 pub mod FixedRules
 pub mod Circles
+pub mod RuleMeaning
+pub mod FacePlaces
+pub mod TacoTortilla

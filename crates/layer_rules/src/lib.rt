@@ -4,13 +4,19 @@
 mod circles;
 mod creases;
 mod face_pairs;
+mod face_places;
 mod places;
 mod regions;
+mod rule_lists;
 #[cfg(test)]
 mod shapes;
 #[cfg(test)]
+mod taco_tests;
+#[cfg(test)]
 mod tests;
+mod tortillas;
 
 pub use circles::transitivity_rules;
 pub use creases::crease_rules;
 pub use face_pairs::{FacePair, PairsFault, pairs};
+pub use tortillas::tortilla_rules;

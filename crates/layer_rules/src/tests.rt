@@ -80,7 +80,7 @@ fn refuses_too_many_pairs(rt: HostRuntime) -> Result<(), Fail> {
 }
 
 /// Two valleys whose outer strips only touch.
-const TOUCHING: Row = Row {
+pub(crate) const TOUCHING: Row = Row {
     faces: &[
         (
             false,
@@ -133,7 +133,7 @@ const TOUCHING: Row = Row {
 };
 
 /// Three mountains that part the square into four strips of one width.
-const STRIPS: Row = Row {
+pub(crate) const STRIPS: Row = Row {
     faces: &[
         (
             false,
@@ -202,7 +202,7 @@ const STRIPS: Row = Row {
 };
 
 /// A cross of three mountains and a valley.
-const CROSS: Row = Row {
+pub(crate) const CROSS: Row = Row {
     faces: &[
         (
             false,
@@ -254,7 +254,7 @@ const CROSS: Row = Row {
 };
 
 /// The waterbomb base.
-const WATERBOMB: Row = Row {
+pub(crate) const WATERBOMB: Row = Row {
     faces: &[
         (
             false,
@@ -360,7 +360,7 @@ const WATERBOMB: Row = Row {
 };
 
 /// Creases in the directions 0, 7, 13, 14 at the middle.
-const FAN_1: Row = Row {
+pub(crate) const FAN_1: Row = Row {
     faces: &[
         (
             false,
@@ -423,7 +423,7 @@ const FAN_1: Row = Row {
 };
 
 /// Creases in the directions 4, 7, 9, 14 at the middle.
-const FAN_2: Row = Row {
+pub(crate) const FAN_2: Row = Row {
     faces: &[
         (
             false,
@@ -486,7 +486,7 @@ const FAN_2: Row = Row {
 };
 
 /// Creases in the directions 0, 1, 3, 6, 7, 9, 13, 15 at the middle.
-const FAN_3: Row = Row {
+pub(crate) const FAN_3: Row = Row {
     faces: &[
         (
             false,
@@ -672,7 +672,7 @@ const FAN_3: Row = Row {
 };
 
 /// Creases in the directions 1, 5, 10, 13, 14, 15 at the middle.
-const FAN_4: Row = Row {
+pub(crate) const FAN_4: Row = Row {
     faces: &[
         (
             false,

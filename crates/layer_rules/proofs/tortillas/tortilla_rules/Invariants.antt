@@ -1,0 +1,11 @@
+use Rattle.std.proofs.Common.{[], length}
+use Rattle.layer_rules.specs.RuleMeaning.{MakesRules, ForSomeBelow}
+use Rattle.layer_rules.proofs.RulesMade.{AtPlace}
+use Rattle.layer_rules.proofs.TortillaRules.{OfCrease}
+use Rattle.layer_rules.proofs.tortillas.tortilla_rules.Given as goal
+
+abbrev pub invariant-loop-crease : goal.invariant-loop-crease
+invariant-loop-crease l =
+    MakesRules (length l.pairs)
+    (ForSomeBelow (AtPlace (length l.pairs) l.folded.creases (OfCrease l.folded l.pairs)) l.crease-index)
+    [] l.rules.items

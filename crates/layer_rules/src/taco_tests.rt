@@ -1,0 +1,67 @@
+//! Rules of taco-tortilla, worked with exact fractions in another language.
+
+use crate::shapes::{Row, shape};
+use crate::tests::{CROSS, FAN_1, FAN_2, FAN_4, STRIPS, TOUCHING, WATERBOMB};
+use crate::{pairs, tortilla_rules};
+use sign_rules::Rule;
+use std::test::Fail;
+
+/// The rules of a row: two pairs, and whether they have one sign.
+type Tortillas = &'static [(u32, u32, bool)];
+
+fn are_equal(rules: &[Rule], wanted: Tortillas) -> bool {
+    rules.len() == wanted.len()
+        && rules.iter().zip(wanted).all(|(rule, row)| *rule
+            == Rule::Equal {
+                p: row.0,
+                q: row.1,
+                same: row.2,
+            })
+}
+
+// Creases that lie on the sides of other faces, as in the strips, run into none.
+const TORTILLAS: &[(Row, Tortillas)] = &[
+    (TOUCHING, &[]),
+    (STRIPS, &[]),
+    (CROSS, &[]),
+    (
+        WATERBOMB,
+        &[(0, 1, true), (6, 7, true), (3, 4, true), (8, 9, true)],
+    ),
+    (
+        FAN_1,
+        &[(0, 3, false), (2, 5, true), (1, 2, true), (3, 4, true)],
+    ),
+    (
+        FAN_2,
+        &[(1, 3, true), (2, 4, true), (0, 1, true), (4, 5, true)],
+    ),
+    (
+        FAN_4,
+        &[
+            (0, 6, false),
+            (1, 9, false),
+            (2, 3, true),
+            (6, 7, true),
+            (9, 10, true),
+            (13, 14, true),
+            (7, 8, true),
+            (10, 11, true),
+            (1, 4, true),
+            (5, 8, true),
+        ],
+    ),
+];
+
+#[test]
+fn finds_tortilla_rules(rt: HostRuntime) -> Result<(), Fail> {
+    for (row, wanted) in TORTILLAS {
+        let folded = shape(rt.alloc(), row)?;
+        if folded.faces().len() <= 65536 {
+            let found = pairs(&rt, rt.alloc(), &folded)?;
+            let rules = tortilla_rules(rt.alloc(), &folded, found.as_slice())?;
+            assert!(rt; are_equal(rules.as_slice(), *wanted));
+        }
+    }
+    Ok(())
+}
