@@ -257,7 +257,7 @@ turn_backwards i m n few e few_m few_n =
 
 -- ---- images of sides
 
-along_same : (n : ℕ) (p q p' q' : Position) → IsSameVector p' p → IsSameVector q' q
+pub along_same : (n : ℕ) (p q p' q' : Position) → IsSameVector p' p → IsSameVector q' q
     → is_along n p' q' ≡ is_along n p q
 along_same n p q p' q' e f =
     let same : IsSameVector (vector_of p' q') (vector_of p q) =
@@ -266,7 +266,7 @@ along_same n p q p' q' e f =
     (cross_same (direction_vector n) (vector_of p' q') (vector_of p q) same)
     (dot_same (direction_vector n) (vector_of p' q') (vector_of p q) same)
 
-image_few : (i n : ℕ) → direction_image i n < 16
+pub image_few : (i n : ℕ) → direction_image i n < 16
 image_few i n = go (is_reflection i)
   where
     go : (b : Bool) → cond b ((2 * i + 16 - n) % 16) ((2 * i + n) % 16) < 16

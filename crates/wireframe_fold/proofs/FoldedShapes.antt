@@ -1,0 +1,84 @@
+-- The shape by the folding, or why there is none.
+use Rattle.std.specs.Prelude.{Result, Ok, Err, MatchResult, IfOk}
+use Rattle.std.proofs.Common.{◌≡◌, ℕ, ◌<◌, Bool, cond, List, [], ◌∷◌, sym, subst}
+use Rattle.std.specs.Bool.{IsTrue}
+use Rattle.std.specs.List.{All, AllZip}
+use Rattle.std.proofs.lemmas.List.Elements.{All-head, All-tail}
+use Rattle.surd_number.specs.Number.{opposite_sign}
+use Rattle.plane_geometry.specs.declared.Point.{Point}
+use Rattle.plane_geometry.specs.Direction.{side_of}
+use Rattle.plane_geometry.specs.Position.{Position}
+use Rattle.isometry_map.specs.declared.folded.FoldedFace.{FoldedFace}
+use Rattle.isometry_map.specs.declared.isometries.Isometry.{Isometry}
+use Rattle.isometry_map.specs.Folded.{FoldedView, are_convex_faces}
+use Rattle.isometry_map.specs.Motion.{Motion, side_of_images}
+use Rattle.isometry_map.specs.MotionLaws.{sides_are_kept}
+use Rattle.face_builder.specs.declared.shared.SharedPiece.{SharedPiece}
+use Rattle.face_builder.specs.MapRules.{AreFaces}
+use Rattle.face_builder.specs.View.{FaceMapView}
+use Rattle.wireframe_fold.specs.declared.faults.WireFault.{WireFault}
+use Rattle.wireframe_fold.specs.declared.faults.WireFault.TheVariants.{DoesNotClose, FoldRange, TooManyLines, Memory}
+use Rattle.wireframe_fold.specs.Folding.{motions_of, IsClosed, IsFolding, AreAlongWalk}
+use Rattle.wireframe_fold.specs.Shape.{IsFoldedFace, AreFoldedFaces}
+use Rattle.wireframe_fold.specs.Fold.{IsShapeBy, IsShapeFault, IsShape, IsWireFault, IsSideKeeping, KeepsSides}
+use Rattle.wireframe_fold.proofs.ConvexFaces.{IsFew, motions_linear, folded_convex}
+
+folding_by : (m : FaceMapView) (ms : List Isometry) → AreAlongWalk m (motions_of ms)
+    → All (IsClosed (motions_of ms)) m.shared → IsFolding m (motions_of ms)
+folding_by m ms along closed =
+    record { count = along.count; linear = motions_linear ms; fixed = along.fixed; closed = closed }
+
+-- the same of slices that the code makes
+pub folding_found : (m : FaceMapView) (ms slice first : List Isometry) (shared : List SharedPiece) → slice ≡ ms
+    → first ≡ ms → shared ≡ m.shared → AreAlongWalk m (motions_of ms)
+    → All (IsClosed (motions_of first)) shared → IsFolding m (motions_of slice)
+folding_found m ms slice first shared at_slice at_first at_shared along closed =
+    let P : List Isometry → Type 0 = λ ns. All (IsClosed (motions_of ns)) m.shared in
+    let Q : List SharedPiece → Type 0 = λ ss. All (IsClosed (motions_of first)) ss in
+    let R : List Isometry → Type 0 = λ ns. IsFolding m (motions_of ns) in
+    subst R (sym at_slice) (folding_by m ms along (subst P at_first (subst Q at_shared closed)))
+
+shape_fault : (m : FaceMapView) (ts : List Motion) (fault : WireFault) → IsFolding m ts
+    → IsShapeFault m ts fault → IsWireFault m fault
+shape_fault m ts (DoesNotClose piece) folding h = absurd h
+shape_fault m ts (FoldRange face) folding h = (ts, folding, h)
+shape_fault m ts (TooManyLines lines) folding h = (ts, folding, h)
+shape_fault m ts Memory folding h = tt
+
+pub shape_answer : (m : FaceMapView) (ts : List Motion) (r : Result FoldedView WireFault) → IsFolding m ts
+    → MatchResult r (IsShapeBy m ts) (IsShapeFault m ts) → MatchResult r (IsShape m) (IsWireFault m)
+shape_answer m ts (Ok f) folding h = (ts, folding, h)
+shape_answer m ts (Err fault) folding h = shape_fault m ts fault folding h
+
+-- ---- sides
+
+sides_by : (t : Motion) (c : List Point) (f : FoldedFace) → t.linear < 16 → IsFoldedFace t c f → IsSideKeeping t f
+sides_by t c f few h =
+    let P : Bool → Type 0 = λ b. (n : ℕ) (q p : Position) → n < 16
+    → side_of_images t n q p ≡ cond b (opposite_sign (side_of q n p)) (side_of q n p) in
+    subst P (sym h.turned) (λ n q p few_n. sides_are_kept t n q p few few_n)
+
+sides_of_each : (ts : List Motion) (cs : List (List Point)) (fs : List FoldedFace) → AreFoldedFaces ts cs fs
+    → All IsFew ts → AllZip IsSideKeeping ts fs
+sides_of_each [] [] [] h few = tt
+sides_of_each [] [] (g ∷ fs) h few = absurd h
+sides_of_each [] (c ∷ cs) [] h few = absurd h
+sides_of_each [] (c ∷ cs) (g ∷ fs) h few = absurd h
+sides_of_each (u ∷ ts) [] [] h few = absurd h
+sides_of_each (u ∷ ts) [] (g ∷ fs) h few = absurd h
+sides_of_each (u ∷ ts) (c ∷ cs) [] h few = absurd h
+sides_of_each (u ∷ ts) (c ∷ cs) (g ∷ fs) h few = (
+  sides_by u c g (All-head IsFew u ts few) h.0,
+  sides_of_each ts cs fs h.1 (All-tail IsFew u ts few),
+)
+
+pub sides_kept : (m : FaceMapView) (r : Result FoldedView WireFault) → MatchResult r (IsShape m) (IsWireFault m)
+    → IfOk r (KeepsSides m)
+sides_kept m (Ok f) h =
+    (h.0, h.1, sides_of_each h.0 m.faces f.faces h.2.faces h.1.linear)
+sides_kept m (Err fault) h = tt
+
+pub convex_shape : (m : FaceMapView) (r : Result FoldedView WireFault) → AreFaces m
+    → MatchResult r (IsShape m) (IsWireFault m) → IfOk r (λ f. IsTrue (are_convex_faces f.faces))
+convex_shape m (Ok f) rules h = folded_convex h.0 m.faces f.faces h.2.faces h.1.linear rules.convex
+convex_shape m (Err fault) rules h = tt

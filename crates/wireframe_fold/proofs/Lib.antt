@@ -1,0 +1,12 @@
+pub mod Steps
+pub mod Walked
+pub mod Maps
+pub mod Corners
+pub mod FaceLists
+pub mod Segments
+pub mod CreaseImages
+pub mod SideLines
+pub mod OneFolding
+pub mod ConvexFaces
+pub mod FoldedShapes
+pub mod Causes

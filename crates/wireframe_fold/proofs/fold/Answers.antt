@@ -1,0 +1,30 @@
+use Rattle.wireframe_fold.specs.declared.faults.WireFault.TheVariants.{DoesNotClose, FoldRange, TooManyLines}
+use Rattle.wireframe_fold.proofs.Causes.{refused_exactly, unfolded_exactly, open_not_memory, range_not_memory, lines_not_memory}
+use Rattle.wireframe_fold.proofs.FoldedShapes.{sides_kept, convex_shape}
+use Rattle.wireframe_fold.proofs.fold.Goals as goal
+
+pub returns-clause-does_not_close : goal.returns-clause-does_not_close
+returns-clause-does_not_close c = λ piece.
+    refused_exactly c.args.faces.now c.tell_places.ensures.rules c.fold_of.result c.fold_of.ensures
+    (DoesNotClose piece) (open_not_memory piece)
+
+pub returns-clause-no_folding : goal.returns-clause-no_folding
+returns-clause-no_folding c =
+    unfolded_exactly c.args.faces.now c.tell_places.ensures.rules c.fold_of.result c.fold_of.ensures
+
+pub returns-clause-fold_range : goal.returns-clause-fold_range
+returns-clause-fold_range c = λ face.
+    refused_exactly c.args.faces.now c.tell_places.ensures.rules c.fold_of.result c.fold_of.ensures
+    (FoldRange face) (range_not_memory face)
+
+pub returns-clause-too_many_lines : goal.returns-clause-too_many_lines
+returns-clause-too_many_lines c = λ lines.
+    refused_exactly c.args.faces.now c.tell_places.ensures.rules c.fold_of.result c.fold_of.ensures
+    (TooManyLines lines) (lines_not_memory lines)
+
+pub returns-clause-convex : goal.returns-clause-convex
+returns-clause-convex c =
+    convex_shape c.args.faces.now c.fold_of.result c.tell_places.ensures.rules c.fold_of.ensures
+
+pub returns-clause-sides : goal.returns-clause-sides
+returns-clause-sides c = sides_kept c.args.faces.now c.fold_of.result c.fold_of.ensures

@@ -1,0 +1,10 @@
+use Rattle.std.proofs.Common.{◌≡◌, length, arith}
+use Rattle.wireframe_fold.proofs.SideLines.{counted}
+use Rattle.wireframe_fold.proofs.lines.count_different.Goals as goal
+
+pub returns : goal.returns
+returns c =
+    let count : c.len.result
+    ≡ length c.dedup.new.self.items = omega (arith, c.len.ensures, c.dedup.new.self.ok.0) in
+    counted c.args.lines.items c.sorted-lines.result.items c.dedup.new.self.items c.len.result
+    c.sorted-lines.ensures.same c.sorted-lines.ensures.order c.dedup.ensures.filtered count
