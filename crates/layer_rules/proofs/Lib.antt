@@ -13,3 +13,5 @@ mod CircleRules
 mod RulesMade
 mod PlacedSigns
 mod TortillaRules
+mod TacoRules
+mod Beside

@@ -12,3 +12,5 @@ pub mod Circles
 pub mod RuleMeaning
 pub mod FacePlaces
 pub mod TacoTortilla
+pub mod TacoTaco
+pub mod TacoTurns

@@ -12,6 +12,7 @@ mod rule_lists;
 mod shapes;
 #[cfg(test)]
 mod taco_tests;
+mod tacos;
 #[cfg(test)]
 mod tests;
 mod tortillas;
@@ -19,4 +20,5 @@ mod tortillas;
 pub use circles::transitivity_rules;
 pub use creases::crease_rules;
 pub use face_pairs::{FacePair, PairsFault, pairs};
+pub use tacos::taco_rules;
 pub use tortillas::tortilla_rules;

@@ -1,8 +1,8 @@
-//! Rules of taco-tortilla, worked with exact fractions in another language.
+//! Rules of taco-tortilla and taco-taco, worked with exact fractions in another language.
 
 use crate::shapes::{Row, shape};
-use crate::tests::{CROSS, FAN_1, FAN_2, FAN_4, STRIPS, TOUCHING, WATERBOMB};
-use crate::{pairs, tortilla_rules};
+use crate::tests::{CROSS, FAN_1, FAN_2, FAN_3, FAN_4, STRIPS, TOUCHING, WATERBOMB};
+use crate::{pairs, taco_rules, tortilla_rules};
 use sign_rules::Rule;
 use std::test::Fail;
 
@@ -61,6 +61,44 @@ fn finds_tortilla_rules(rt: HostRuntime) -> Result<(), Fail> {
             let found = pairs(&rt, rt.alloc(), &folded)?;
             let rules = tortilla_rules(rt.alloc(), &folded, found.as_slice())?;
             assert!(rt; are_equal(rules.as_slice(), *wanted));
+        }
+    }
+    Ok(())
+}
+
+/// The rules of a row: four pairs, and whether an odd number of them has the sign Over.
+type Tacos = &'static [(u32, u32, u32, u32, bool)];
+
+fn are_even(rules: &[Rule], wanted: Tacos) -> bool {
+    rules.len() == wanted.len()
+        && rules.iter().zip(wanted).all(|(rule, row)| *rule
+            == Rule::Even {
+                p: row.0,
+                q: row.1,
+                r: row.2,
+                s: row.3,
+                odd: row.4,
+            })
+}
+
+const TACOS: &[(Row, Tacos)] = &[
+    (TOUCHING, &[]),
+    (STRIPS, &[(1, 3, 2, 4, false)]),
+    (CROSS, &[(1, 3, 2, 4, false), (0, 3, 2, 5, true)]),
+    (WATERBOMB, &[(1, 5, 2, 6, false), (2, 9, 3, 10, false)]),
+    (FAN_1, &[]),
+    (FAN_3, &[(2, 12, 4, 17, false), (15, 17, 16, 18, false)]),
+    (FAN_4, &[(3, 12, 4, 13, false)]),
+];
+
+#[test]
+fn finds_taco_rules(rt: HostRuntime) -> Result<(), Fail> {
+    for (row, wanted) in TACOS {
+        let folded = shape(rt.alloc(), row)?;
+        if folded.faces().len() <= 65536 {
+            let found = pairs(&rt, rt.alloc(), &folded)?;
+            let rules = taco_rules(rt.alloc(), &folded, found.as_slice())?;
+            assert!(rt; are_even(rules.as_slice(), *wanted));
         }
     }
     Ok(())

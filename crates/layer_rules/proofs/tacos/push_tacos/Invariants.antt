@@ -1,0 +1,12 @@
+use Rattle.std.proofs.Common.{length}
+use Rattle.layer_rules.specs.RuleMeaning.{MakesRules, ForSomeBelow}
+use Rattle.layer_rules.specs.TacoTaco.{BreaksTacoTacoAt}
+use Rattle.layer_rules.proofs.RulesMade.{AtPlace}
+use Rattle.layer_rules.proofs.tacos.push_tacos.Given as goal
+
+abbrev pub invariant-loop-second : goal.invariant-loop-second
+invariant-loop-second l =
+    MakesRules (length l.pairs)
+    (ForSomeBelow (AtPlace (length l.pairs) l.folded.creases (BreaksTacoTacoAt l.folded l.pairs l.first))
+    l.second-index)
+    l.initial.rules.items l.rules.items

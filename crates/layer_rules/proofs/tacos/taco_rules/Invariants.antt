@@ -1,0 +1,11 @@
+use Rattle.std.proofs.Common.{[], length}
+use Rattle.layer_rules.specs.RuleMeaning.{MakesRules, ForSomeBelow}
+use Rattle.layer_rules.specs.TacoTaco.{BreaksTacoTacoWith}
+use Rattle.layer_rules.proofs.RulesMade.{AtPlace}
+use Rattle.layer_rules.proofs.tacos.taco_rules.Given as goal
+
+abbrev pub invariant-loop-crease : goal.invariant-loop-crease
+invariant-loop-crease l =
+    MakesRules (length l.pairs)
+    (ForSomeBelow (AtPlace (length l.pairs) l.folded.creases (BreaksTacoTacoWith l.folded l.pairs)) l.crease-index)
+    [] l.rules.items

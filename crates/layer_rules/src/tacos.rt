@@ -1,0 +1,178 @@
+//! Taco-taco as rules: of two folded creases that lie on one another, with all four faces on one side, neither has just one
+//! face between those of the other.
+
+ghost use Rattle.std.specs.Prelude.{◌≡◌, ◌↔◌, ◌≤◌, List, length, IfOk, OnOk, IsTrue};
+ghost use Rattle.std.specs.List.{AllPairs, Contains, list_any};
+ghost use Rattle.plane_geometry.specs.Position.{position_of};
+ghost use Rattle.plane_geometry.specs.DirView.{dir_number};
+ghost use Rattle.plane_geometry.specs.Direction.{opposite_number};
+ghost use Rattle.plane_geometry.specs.SegmentView.{stretch_of};
+ghost use Rattle.plane_geometry.specs.Stretch.{ShareTwoPoints};
+ghost use Rattle.isometry_map.specs.Folded.{FoldedView};
+ghost use Rattle.sign_rules.specs.declared.sign.Sign.{Sign};
+ghost use Rattle.sign_rules.specs.Rules.{are_rules_on, is_broken};
+ghost use Rattle.layer_rules.specs.FacePairs.{Precedes, IsPairList, most_pairs};
+ghost use Rattle.layer_rules.specs.Insides.{AreInsides};
+ghost use Rattle.layer_rules.specs.RuleMeaning.{MakesRule, MakesRules};
+ghost use Rattle.layer_rules.specs.TacoTaco.{HasNothingLeftOf, HaveNothingLeftOf, LieOnOneSide, BreaksTacoTacoAt, BreaksTacoTacoWith, BreaksTacoTaco};
+ghost use Rattle.layer_rules.specs.TacoTurns.{is_turned_oddly};
+
+use crate::face_pairs::FacePair;
+use crate::face_places::place_of;
+use crate::regions::insides;
+use crate::rule_lists::push_rule;
+use isometry_map::{CreaseImage, Folded};
+use open_region::Region;
+use plane_geometry::{Dir, Point, overlaps};
+use sign_rules::Rule;
+use std::alloc::{AllocError, Global};
+
+/// The rules of taco-taco for the pairs of a folded shape: one for each two creases that lie on one another.
+pub fn taco_rules(
+    alloc: Global,
+    folded: &Folded,
+    pairs: &[FacePair],
+) -> Result<Vec<Rule>, AllocError>
+    requires pairs { IsPairList folded.now pairs.now }
+    requires few { length pairs.now ≤ most_pairs }
+
+    // A sign list breaks one of them that it decides exactly where it breaks an instance of taco-taco.
+    ensures meaning { IfOk result (λ v. (signs : List Sign) → IsTrue (list_any (is_broken signs) v.items)
+        ↔ BreaksTacoTaco folded.now pairs.now signs) }
+    ensures rules { IfOk result (λ v. IsTrue (are_rules_on (length pairs.now) v.items)) }
+{
+    let insides = insides(alloc, folded.faces())?;
+    let mut rules = Vec::new(alloc);
+    for crease in folded.creases() {
+        push_tacos(&mut rules, folded, insides.as_slice(), pairs, crease)?;
+    }
+    Ok(rules)
+}
+
+/// Those of one crease, with each whose first face comes after its own.
+fn push_tacos(
+    rules: &mut Vec<Rule>,
+    folded: &Folded,
+    insides: &[Region],
+    pairs: &[FacePair],
+    first: &CreaseImage,
+) -> Result<(), AllocError>
+    requires insides { AreInsides folded.now.faces insides.now }
+    requires pairs { IsPairList folded.now pairs.now }
+    requires few { length pairs.now ≤ most_pairs }
+    ensures { OnOk result (MakesRules (length pairs.now) (BreaksTacoTacoWith folded.now pairs.now first.now)
+        rules.old.items rules.new.items) }
+{
+    for second in folded.creases() {
+        push_rule(rules, taco(insides, pairs, first, second))?;
+    }
+    Ok(())
+}
+
+/// The rule of two creases, if they lie on one another with all faces on one side, and all pairs are there.
+fn taco(insides: &[Region], pairs: &[FacePair], c: &CreaseImage, d: &CreaseImage) -> Option<Rule>
+    requires ascending { AllPairs Precedes pairs.now }
+    requires few { length pairs.now ≤ most_pairs }
+    ensures { (shape : FoldedView) → AreInsides shape.faces insides.now → IsPairList shape pairs.now →
+        MakesRule (length pairs.now) (BreaksTacoTacoAt shape pairs.now c.now d.now) result }
+{
+    if d.a <= c.a {
+        return None;
+    }
+    if !lie_together(c, d) {
+        return None;
+    }
+    let Some(p) = place_of(pairs, c.a, d.a) else {
+        return None;
+    };
+    let Some(q) = place_of(pairs, c.b, d.a) else {
+        return None;
+    };
+    let Some(r) = place_of(pairs, c.a, d.b) else {
+        return None;
+    };
+    let Some(s) = place_of(pairs, c.b, d.b) else {
+        return None;
+    };
+    let Some(_first) = place_of(pairs, c.a, c.b) else {
+        return None;
+    };
+    let Some(_second) = place_of(pairs, d.a, d.b) else {
+        return None;
+    };
+    if !lie_on_one_side(insides, c, d) {
+        return None;
+    }
+    Some(Rule::Even {
+        p,
+        q,
+        r,
+        s,
+        odd: is_turned_oddly(c, d),
+    })
+}
+
+/// Whether the images of the creases have a part of positive length in common.
+fn lie_together(c: &CreaseImage, d: &CreaseImage) -> bool
+    ensures { IsTrue result ↔ ShareTwoPoints (stretch_of c.now.image) (stretch_of d.now.image) }
+{
+    overlaps(&c.image, &d.image)
+}
+
+/// Whether of an odd number of the four pairs the second crease's face is the lesser one.
+fn is_turned_oddly(c: &CreaseImage, d: &CreaseImage) -> bool
+    ensures { result ≡ is_turned_oddly c.now d.now }
+{
+    ((c.a < d.a) == (c.b < d.a)) != ((c.a < d.b) == (c.b < d.b))
+}
+
+/// Whether the faces of both creases lie on one side of the first one.
+fn lie_on_one_side(insides: &[Region], c: &CreaseImage, d: &CreaseImage) -> bool
+    ensures { (shape : FoldedView) → AreInsides shape.faces insides.now →
+        IsTrue result ↔ LieOnOneSide shape (stretch_of c.now.image) c.now d.now }
+{
+    let q = c.image.from();
+    let dir = c.image.dir();
+    lie_beside(insides, c, d, q, dir) || lie_beside(insides, c, d, q, opposite(dir))
+}
+
+/// Whether the faces of both creases have nothing left of the line.
+fn lie_beside(insides: &[Region], c: &CreaseImage, d: &CreaseImage, q: &Point, dir: Dir) -> bool
+    ensures { (shape : FoldedView) → AreInsides shape.faces insides.now →
+        IsTrue result ↔ (HaveNothingLeftOf shape (position_of q.now) (dir_number dir) c.now
+        × HaveNothingLeftOf shape (position_of q.now) (dir_number dir) d.now) }
+{
+    have_nothing_left(insides, c, q, dir) && have_nothing_left(insides, d, q, dir)
+}
+
+/// Whether the faces of the crease have nothing left of the line.
+fn have_nothing_left(insides: &[Region], c: &CreaseImage, q: &Point, dir: Dir) -> bool
+    ensures { (shape : FoldedView) → AreInsides shape.faces insides.now →
+        IsTrue result ↔ HaveNothingLeftOf shape (position_of q.now) (dir_number dir) c.now }
+{
+    has_nothing_left(insides, c.a, q, dir) && has_nothing_left(insides, c.b, q, dir)
+}
+
+/// Whether no point strictly inside the face is left of the line.
+fn has_nothing_left(insides: &[Region], f: u32, q: &Point, dir: Dir) -> bool
+    ensures { (shape : FoldedView) → AreInsides shape.faces insides.now →
+        IsTrue result ↔ HasNothingLeftOf shape (position_of q.now) (dir_number dir) f }
+{
+    if f == 0 {
+        return true;
+    }
+    if insides.len() < f as usize {
+        return true;
+    }
+    !insides[f as usize - 1].cut(q, dir).is_open_nonempty()
+}
+
+/// The opposite direction.
+fn opposite(dir: Dir) -> Dir
+    ensures { dir_number result ≡ opposite_number (dir_number dir) }
+{
+    match Dir::new((dir.number() + 8) % 16) {
+        Some(opposite) => opposite,
+        None => unreachable!(),
+    }
+}
