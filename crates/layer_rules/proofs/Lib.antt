@@ -15,3 +15,4 @@ mod PlacedSigns
 mod TortillaRules
 mod TacoRules
 mod Beside
+mod OrderRules

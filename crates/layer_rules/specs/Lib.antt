@@ -14,3 +14,4 @@ pub mod FacePlaces
 pub mod TacoTortilla
 pub mod TacoTaco
 pub mod TacoTurns
+pub mod LayerOrder

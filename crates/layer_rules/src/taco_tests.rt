@@ -1,9 +1,10 @@
-//! Rules of taco-tortilla and taco-taco, worked with exact fractions in another language.
+//! Rules of taco-tortilla and taco-taco, and how many lists break none, worked with exact fractions in another language.
 
 use crate::shapes::{Row, shape};
 use crate::tests::{CROSS, FAN_1, FAN_2, FAN_3, FAN_4, STRIPS, TOUCHING, WATERBOMB};
-use crate::{pairs, taco_rules, tortilla_rules};
-use sign_rules::Rule;
+use crate::{order_rules, pairs, taco_rules, tortilla_rules};
+use sign_rules::{Rule, Sign};
+use std::alloc::{AllocError, Global};
 use std::test::Fail;
 
 /// The rules of a row: two pairs, and whether they have one sign.
@@ -99,6 +100,56 @@ fn finds_taco_rules(rt: HostRuntime) -> Result<(), Fail> {
             let found = pairs(&rt, rt.alloc(), &folded)?;
             let rules = taco_rules(rt.alloc(), &folded, found.as_slice())?;
             assert!(rt; are_even(rules.as_slice(), *wanted));
+        }
+    }
+    Ok(())
+}
+
+/// The list of this number, with a sign for each of so many pairs.
+fn signs(alloc: Global, pairs: usize, number: u32) -> Result<Vec<Sign>, AllocError> {
+    let mut signs = Vec::new(alloc);
+    let mut left = number;
+    for _ in 0..pairs {
+        signs.push(if left % 2 == 1 {
+            Sign::Over
+        } else {
+            Sign::Under
+        })?;
+        left /= 2;
+    }
+    Ok(signs)
+}
+
+/// How many of the first lists break no rule.
+fn unbroken(alloc: Global, rules: &[Rule], pairs: usize, lists: u32) -> Result<u32, AllocError> {
+    let mut count = 0u32;
+    for number in 0..lists {
+        let signs = signs(alloc, pairs, number)?;
+        if !rules.iter().any(|rule| rule.is_broken(signs.as_slice())) {
+            count = count.saturating_add(1);
+        }
+    }
+    Ok(count)
+}
+
+// How many lists of signs there are, and how many of them are layer orders.
+const ORDERS: &[(Row, u32, u32)] = &[
+    (TOUCHING, 4, 1),
+    (STRIPS, 64, 3),
+    (CROSS, 64, 1),
+    (WATERBOMB, 2048, 1),
+    (FAN_1, 64, 0),
+];
+
+#[test]
+fn counts_layer_orders(rt: HostRuntime) -> Result<(), Fail> {
+    for (row, lists, wanted) in ORDERS {
+        let folded = shape(rt.alloc(), row)?;
+        if folded.faces().len() <= 65536 {
+            let found = pairs(&rt, rt.alloc(), &folded)?;
+            let rules = order_rules(rt.alloc(), &folded, row.kinds, found.as_slice())?;
+            let count = unbroken(rt.alloc(), rules.as_slice(), found.len(), *lists)?;
+            assert!(rt; count == *wanted);
         }
     }
     Ok(())
