@@ -88,6 +88,13 @@ impl JobState {
         true
     }
 
+    /// The version of the pattern whose rules these are.
+    pub fn version(&self) -> u32
+        ensures { result ≡ self.now.version }
+    {
+        self.version
+    }
+
     /// Whether an ask is open.
     pub fn asked(&self) -> bool
         ensures { IsTrue result ↔ IsSome self.now.ask }
@@ -219,7 +226,7 @@ impl JobState {
     }
 
     /// Whether the outcome names the last task of its piece, and that is not answered.
-    pub(crate) fn matches(&self, outcome: &Outcome) -> bool
+    pub fn matches(&self, outcome: &Outcome) -> bool
         ensures { IsTrue result ↔ Matches self.now outcome.now }
     {
         match self.piece(outcome.piece) {
