@@ -1,0 +1,5 @@
+pub mod Places
+pub mod Events
+pub mod Own
+pub mod Growing
+pub mod Right

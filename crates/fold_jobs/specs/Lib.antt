@@ -1,0 +1,6 @@
+pub mod Limits
+pub mod Machine
+pub mod Invariant
+pub mod Record
+pub mod OwnEvents
+pub mod Laws
