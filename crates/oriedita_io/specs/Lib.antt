@@ -1,4 +1,5 @@
 pub mod Faults
+pub mod Files
 pub mod InMemory
 pub mod Standard
 pub mod Told

@@ -12,6 +12,11 @@ abbrev pub Tells : {A : Type 0} → Option A → A → Type 0
 Tells None value = Unit {0}
 Tells (Some told) value = told ≡ value
 
+-- these are all bytes of a file, or its first ones, so many, where it has more
+abbrev pub ReadsUpTo : Option (List ℕ) → ℕ → List ℕ → Type 0
+ReadsUpTo None most bytes = Unit {0}
+ReadsUpTo (Some whole) most bytes = bytes ≡ take most whole
+
 -- what a sink tells of being finished, before and after it took so many bytes: the same after none, else that it is not
 abbrev pub FinishedAfter : Option Bool → Option Bool → ℕ → Type 0
 FinishedAfter before after count = (count ≡ 0 → after ≡ before) × (0 < count → Tells after false)

@@ -1,5 +1,6 @@
-//! What a source or a sink answers that could not do what it was asked.
+//! What a source, a sink or an opener answers that could not do what it was asked.
 
+use std::alloc::AllocError;
 use thiserror::Error;
 
 /// A source or a sink could not do what it was asked. Its count of faults rose for it, or stands at the last
@@ -7,3 +8,25 @@ use thiserror::Error;
 #[derive(Clone, Copy, Debug, PartialEq, Eq, Error)]
 #[error("the object failed")]
 pub struct Failed;
+
+/// Why a file was not read.
+#[derive(Clone, Copy, Debug, PartialEq, Eq, Error)]
+pub enum OpenFault {
+    /// It could not be opened, or a read of it failed. The opener's count of faults rose for it, or stands at
+    /// the last value that it can have.
+    #[error("the file could not be read")]
+    Failed,
+    #[error("out of memory")]
+    Memory,
+}
+
+impl From<AllocError> for OpenFault {
+    ghost use Rattle.std.specs.Prelude.{◌≡◌};
+    ghost use Rattle.oriedita_io.specs.declared.faults.OpenFault.TheVariants.{Memory};
+
+    ghost from_gives = { λ _ fault. fault ≡ Memory };
+
+    fn from(_e: AllocError) -> OpenFault {
+        OpenFault::Memory
+    }
+}

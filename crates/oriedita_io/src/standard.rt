@@ -9,10 +9,10 @@ use std::io;
 use std::io::{Read, Write};
 use std::marker::Model;
 
-/// How often a read, a write or a flush is made at most, where signals interrupt it each time.
-const TRIES: u32 = 100_000;
+/// How often a call is made at most, where signals interrupt it each time.
+pub(crate) const TRIES: u32 = 100_000;
 
-fn is_interrupted<T>(ended: &io::Result<T>) -> bool
+pub(crate) fn is_interrupted<T>(ended: &io::Result<T>) -> bool
     ensures { IsTrue result → IsErr ended.now }
 {
     match ended {

@@ -117,6 +117,77 @@ fn readers_and_writers_pass_bytes_on(rt: HostRuntime) -> Result<(), Fail> {
     Ok(())
 }
 
+fn file(alloc: Global, path: &str, bytes: &[u8]) -> Result<MemFile, AllocError> {
+    Ok(MemFile {
+        path: String::from_str(alloc, path)?,
+        bytes: bytes.to_vec(alloc)?,
+    })
+}
+
+// The path of each read, and how many bytes are asked for; then what is read. The third read fails.
+const OPENINGS: [(&str, usize, Result<&[u8], OpenFault>); 7] = [
+    ("a.cp", 9, Ok(b"abc")),
+    ("a.cp", 3, Ok(b"abc")),
+    ("a.cp", 2, Err(OpenFault::Failed)),
+    ("a.cp", 2, Ok(b"ab")),
+    ("b.cp", 9, Ok(b"")),
+    ("none.cp", 9, Err(OpenFault::Failed)),
+    ("", 0, Err(OpenFault::Failed)),
+];
+
+// Of two files with one path the first is read.
+#[test]
+fn opens_files_in_memory(rt: HostRuntime) -> Result<(), Fail> {
+    let alloc = rt.alloc();
+    let mut files = Vec::new(alloc);
+    files.push(file(alloc, "a.cp", b"abc")?)?;
+    files.push(file(alloc, "b.cp", b"")?)?;
+    files.push(file(alloc, "a.cp", b"xyz")?)?;
+    let mut opener = MemOpener::new(files, vec![in alloc; 3]?);
+    for (path, most, expected) in OPENINGS {
+        assert!(rt; most <= 9);
+        let read = opener.read_up_to(alloc, path, most);
+        assert_eq!(rt;
+            read.as_ref()
+                .map(|bytes: &Vec<u8>| bytes.as_slice())
+                .map_err(|fault: &OpenFault| *fault),
+            expected,
+            "{path}"
+        );
+    }
+    Ok(())
+}
+
+// The path of each read of the system's files, and how many bytes are asked for; then how many are read.
+const SYSTEM_FILES: [(&str, usize, Option<usize>); 7] = [
+    ("/dev/zero", 0, Some(0)),
+    ("/dev/zero", 1, Some(1)),
+    ("/dev/zero", 5000, Some(5000)),
+    ("/dev/null", 5000, Some(0)),
+    ("/dev/null/none.cp", 5000, None),
+    ("/", 5000, None),
+    ("/dev/zero\0", 1, None),
+];
+
+#[test]
+fn opens_files_of_the_system(rt: HostRuntime) -> Result<(), Fail> {
+    let mut opener = FileOpener::new(&rt);
+    for (path, most, count) in SYSTEM_FILES {
+        assert!(rt; most <= 5000);
+        match opener.read_up_to(rt.alloc(), path, most) {
+            Ok(bytes) => {
+                assert_eq!(rt; Some(bytes.len()), count, "{path}");
+                assert!(rt; bytes.iter().all(|b: &u8| *b == 0), "{path}");
+            }
+            Err(fault) => {
+                assert_eq!(rt; count, None, "{path}");
+                assert_eq!(rt; fault, OpenFault::Failed, "{path}");
+            }
+        }
+    }
+    Ok(())
+}
+
 // Gives `left` bytes and takes any number, one a call, and counts the flushes. A call is done only after so many
 // others were interrupted.
 #[derive(Drop)]
