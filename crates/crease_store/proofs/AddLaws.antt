@@ -12,14 +12,14 @@ use Rattle.crease_model.specs.declared.Piece.{Piece}
 use Rattle.crease_model.specs.View.{PatternView}
 use Rattle.crease_model.specs.Sheet.{is_within_side}
 use Rattle.crease_model.specs.Rules.{IsPattern, AllMeetAtEnds, is_ascending, is_on_sheet, size_of, most_pieces}
-use Rattle.line_split.specs.Cuts.{cuts_of}
+use Rattle.line_split.specs.Cuts.{cuts_of, is_touched, untouched}
 use Rattle.line_split.specs.MemberLaws.{Member, member, contained}
 use Rattle.crease_store.specs.declared.faults.StoreRefusal.{StoreRefusal}
 use Rattle.crease_store.specs.declared.faults.StoreRefusal.TheVariants.{EdgeOffBorder, OutsideSheet, OnBorder, Crossing, TooManyPieces}
 use Rattle.crease_store.specs.Added.{IsAdded, IsAddedBetween, IsCreaseAdded, IsLineAdded, IsPieceOfAdd}
 use Rattle.crease_store.specs.InOrder.{segment_at}
 use Rattle.crease_store.specs.InOrder.{line_at}
-use Rattle.crease_store.specs.Adding.{is_touched, untouched, new_pieces, with_crease, with_line, if_it_fits, crease_cut, crease_added, line_added, segment_added, segment_refusal, added_between, add_of}
+use Rattle.crease_store.specs.Adding.{new_pieces, with_crease, with_line, if_it_fits, crease_cut, crease_added, line_added, segment_added, segment_refusal, added_between, add_of}
 use Rattle.crease_store.specs.InOrder.{with_in_order}
 use Rattle.crease_store.specs.Laws.{AddedMeet, AddedIsOne}
 use Rattle.crease_store.proofs.Ascending.{one_ascending, filter_ascends}

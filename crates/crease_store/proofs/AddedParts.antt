@@ -16,14 +16,14 @@ use Rattle.plane_geometry.specs.SegmentLaws.{point_is}
 use Rattle.crease_model.specs.declared.Kind.{Kind}
 use Rattle.crease_model.specs.declared.Piece.{Piece}
 use Rattle.crease_model.specs.Rules.{AllMeetAtEnds}
-use Rattle.line_split.specs.Cuts.{cuts_of}
+use Rattle.line_split.specs.Cuts.{cuts_of, is_touched, untouched, touched}
 use Rattle.line_split.specs.CutLaws.{cuts_are_cuts, cuts_are_all, cuts_ascend}
 use Rattle.line_split.specs.MemberLaws.{Member, member, contained, filter_member, member_filter, member_left, member_right, member_either}
 use Rattle.line_split.specs.Parts.{parts_of}
 use Rattle.line_split.specs.PartLaws.{IsPartEnd, IsPart, parts_are_parts, parts_are_all, part_is_on}
 use Rattle.crease_store.specs.Added.{covers, is_vertex, HasAddedKind, IsPieceOfAdd}
 use Rattle.crease_store.specs.InOrder.{segment_at, HaveOneOnEach}
-use Rattle.crease_store.specs.Adding.{is_touched, rest_of, rests_of, untouched, new_pieces, pieces_with}
+use Rattle.crease_store.specs.Adding.{rest_of, rests_of, new_pieces, pieces_with}
 use Rattle.crease_store.proofs.Covered.{end_lies, covers_self, same_segment, covering_between, between_same, vertex_at_new, vertex_at_old, inner_vertex_on, covered_once}
 use Rattle.crease_store.proofs.Members.{member_flat_map, flat_map_member, piece_is}
 use Rattle.crease_store.proofs.InOrderLaws.{placed_all_either, placed_all_has}
@@ -146,7 +146,7 @@ module _ (old : List Piece) (kind : Kind) (s : Segment) (cuts : List Point) (mee
 
   each_is_piece : (q : Piece) → Member (new_pieces old kind s cuts) q ⊎ Member (untouched (stretch_of s) old) q → IsPiece q
   each_is_piece q (inl m) =
-      elim (member_either (rests_of (stretch_of s) cuts old) (parts_of new_piece cuts) q m) [
+      elim (member_either (rests_of (stretch_of s) cuts (touched (stretch_of s) old)) (parts_of new_piece cuts) q m) [
         | inl n ↦ (let w = flat_map_member (rest_of (stretch_of s) cuts) _ q n in
             let at = filter_member (is_touched (stretch_of s)) old w.0 w.1 in
             let left = filter_member (λ (t : Piece). not (covers (stretch_of s) (stretch_of t.segment))) (parts_of w.0 cuts) q w.2 in
@@ -180,16 +180,16 @@ module _ (old : List Piece) (kind : Kind) (s : Segment) (cuts : List Point) (mee
     where
       by_touched : (u : Piece) → Member old u → covers (stretch_of s) (stretch_of q.segment) ≡ false → covers (stretch_of u.segment) (stretch_of q.segment) ≡ true → q.kind ≡ u.kind → (b : Bool) → is_touched (stretch_of s) u ≡ b
           → Member (new_pieces old kind s cuts) q ⊎ Member (untouched (stretch_of s) old) q
-      by_touched u at left e same_kind true touched =
-          inl (member_left (rests_of (stretch_of s) cuts old) (parts_of new_piece cuts) q
-          (member_flat_map (rest_of (stretch_of s) cuts) _ u q (member_filter (is_touched (stretch_of s)) old u at touched)
+      by_touched u at left e same_kind true hit =
+          inl (member_left (rests_of (stretch_of s) cuts (touched (stretch_of s) old)) (parts_of new_piece cuts) q
+          (member_flat_map (rest_of (stretch_of s) cuts) _ u q (member_filter (is_touched (stretch_of s)) old u at hit)
           (member_filter (λ (t : Piece). not (covers (stretch_of s) (stretch_of t.segment))) (parts_of u cuts) q (part_there u q (old_cut u at) h same_kind e) (not_from_false _ left))))
       by_touched u at left e same_kind false apart =
           inr (subst (Member (untouched (stretch_of s) old)) (whole_untouched u q at apart h same_kind e)
           (member_filter (λ (t : Piece). not (is_touched (stretch_of s) t)) old u at (not_from_false _ apart)))
 
       go : HasAddedKind old kind (stretch_of s) q → Member (new_pieces old kind s cuts) q ⊎ Member (untouched (stretch_of s) old) q
-      go (inl w) = inl (member_right (rests_of (stretch_of s) cuts old) (parts_of new_piece cuts) q (part_there new_piece q new_cut h w.1 w.0))
+      go (inl w) = inl (member_right (rests_of (stretch_of s) cuts (touched (stretch_of s) old)) (parts_of new_piece cuts) q (part_there new_piece q new_cut h w.1 w.0))
       go (inr w) = let u = (w.1).0 in by_touched u (member old u (w.1).1) w.0 (w.1).2 (w.1).3 (is_touched (stretch_of s) u) refl
 
   -- ---- one piece on a segment

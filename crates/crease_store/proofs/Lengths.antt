@@ -13,12 +13,12 @@ use Rattle.plane_geometry.specs.Common.{common_of}
 use Rattle.crease_model.specs.declared.Kind.{Kind}
 use Rattle.crease_model.specs.declared.Piece.{Piece}
 use Rattle.line_split.specs.Points.{by_order, with_point}
-use Rattle.line_split.specs.Cuts.{with_point_on, with_ends, is_meeting, with_common, with_meeting, with_piece_cuts, points_or, cuts_from, cuts_of}
+use Rattle.line_split.specs.Cuts.{with_point_on, with_ends, is_meeting, with_common, with_meeting, with_piece_cuts, points_or, cuts_from, cuts_of, is_touched, untouched, touched}
 use Rattle.line_split.specs.LengthLaws.{with_point_length, flat_map_length}
 use Rattle.line_split.specs.Parts.{inner_points, piece_on, pieces_between, parts_of}
 use Rattle.crease_store.specs.Added.{covers}
 use Rattle.crease_store.specs.InOrder.{segment_at}
-use Rattle.crease_store.specs.Adding.{is_touched, rest_of, rests_of, untouched, new_pieces, pieces_with}
+use Rattle.crease_store.specs.Adding.{rest_of, rests_of, new_pieces, pieces_with}
 use Rattle.crease_store.proofs.InOrderLaws.{placed_all_length}
 
 -- ---- cut points
@@ -91,7 +91,7 @@ few_with old kind s cuts few cut =
     let few_cuts : length cuts ≤ 6002 = omega (arith, few, cuts_length s old cuts cut) in
     let few_left : (p : Piece) → length (rest_of S cuts p) ≤ 6003 =
     λ p. let left = filter_length (λ (q : Piece). not (covers S (stretch_of q.segment))) (parts_of p cuts) in omega (arith, left, parts_length p cuts, few_cuts) in
-    let few_rests : length (rests_of S cuts old) ≤ 2000 * 6003 =
+    let few_rests : length (rests_of S cuts (touched S old)) ≤ 2000 * 6003 =
     omega (arith, flat_map_length (rest_of S cuts) 6003 few_left (filter (is_touched S) old), filter_length (is_touched S) old, few) in
     let few_kept : length (untouched S old) ≤ 2000 = omega (arith, filter_length (λ (p : Piece). not (is_touched S p)) old, few) in
-    omega (arith, placed_all_length segment_at (untouched S old) (new_pieces old kind s cuts), length-append (rests_of S cuts old) (parts_of new cuts), parts_length new cuts, few_rests, few_kept, few_cuts)
+    omega (arith, placed_all_length segment_at (untouched S old) (new_pieces old kind s cuts), length-append (rests_of S cuts (touched S old)) (parts_of new cuts), parts_length new cuts, few_rests, few_kept, few_cuts)

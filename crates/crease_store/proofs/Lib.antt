@@ -23,4 +23,5 @@ pub mod OwnPieces
 pub mod OwnLines
 mod InOneWalk
 mod OwnCuts
+mod Reach
 mod ThereAlready

@@ -100,6 +100,15 @@ module _ (at : Piece → Point) where
   rising_parts v (x ∷ xs) up (suc i) zero d low high e = absurd (omega arith)
   rising_parts v (x ∷ xs) up (suc i) (suc j) d low high e = rising_parts v xs (rising_rest x xs up) i j d (omega arith) (omega arith) e
 
+  -- those that don't come after v stand in front
+  pub within_parts : (v : Point) (xs : List Piece) → is_sorted_by at xs ≡ true → IsPartitionedBy (λ p. not (comes_before v (at p))) xs
+  within_parts v [] up i j d low high e = absurd (omega arith)
+  within_parts v (x ∷ xs) up zero zero d low high e = e
+  within_parts v (x ∷ xs) up zero (suc j) d low high e =
+      not_from_false _ (not_after_chain (at x) (at (get_or xs j d)) v (none_before x xs up j d (omega arith)) (not-true _ e))
+  within_parts v (x ∷ xs) up (suc i) zero d low high e = absurd (omega arith)
+  within_parts v (x ∷ xs) up (suc i) (suc j) d low high e = within_parts v xs (rising_rest x xs up) i j d (omega arith) (omega arith) e
+
   abbrev is_at : Point → Piece → Bool
   is_at v p = is_same_position (position_of (at p)) (position_of v)
 

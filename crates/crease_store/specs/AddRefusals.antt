@@ -13,7 +13,10 @@ use Rattle.crease_model.specs.Rules.{is_crease, is_crease_kind, is_on_sheet, mos
 use Rattle.crease_model.specs.View.{PatternView}
 use Rattle.line_split.specs.Cuts.{IsFirstOutOfRange}
 use Rattle.crease_store.specs.declared.faults.StoreRefusal.{StoreRefusal}
-use Rattle.crease_store.specs.declared.faults.StoreRefusal.TheVariants.{ZeroLength, BadDirection, EdgeOffBorder, OutsideSheet, OnBorder, Crossing, TooManyPieces, NoSuchPiece}
+use Rattle.crease_store.specs.declared.faults.StoreRefusal.TheVariants.{ZeroLength, BadDirection}
+use Rattle.crease_store.specs.declared.faults.StoreRefusal.TheVariants.{EdgeOffBorder, OutsideSheet}
+use Rattle.crease_store.specs.declared.faults.StoreRefusal.TheVariants.{OnBorder, Crossing}
+use Rattle.crease_store.specs.declared.faults.StoreRefusal.TheVariants.{TooManyPieces, NoSuchPiece}
 use Rattle.crease_store.specs.Added.{IsAdded}
 
 -- different points with none of the 16 directions between them
@@ -26,28 +29,34 @@ HasSegment from to IsSo = (s : Segment) × (segment_of from to ≡ Some s) × Is
 
 -- an edge that is not within one side of the sheet
 abbrev pub IsEdgeOffBorder : PatternView → Kind → Point → Point → Type 0
-IsEdgeOffBorder old kind from to = (kind ≡ Edge) × HasSegment from to (λ s. IsFalse (is_within_side old.corners (stretch_of s)))
+IsEdgeOffBorder old kind from to =
+    (kind ≡ Edge) × HasSegment from to (λ s. IsFalse (is_within_side old.corners (stretch_of s)))
 
 -- another line, with an end outside the sheet
 abbrev pub IsOutsideSheet : PatternView → Kind → Point → Point → Type 0
-IsOutsideSheet old kind from to = (kind ≢ Edge) × HasSegment from to (λ s. IsFalse (is_on_sheet old.corners (stretch_of s)))
+IsOutsideSheet old kind from to =
+    (kind ≢ Edge) × HasSegment from to (λ s. IsFalse (is_on_sheet old.corners (stretch_of s)))
 
 -- a mountain or a valley on the sheet and within one side of it
 abbrev pub IsCreaseOnBorder : PatternView → Kind → Point → Point → Type 0
 IsCreaseOnBorder old kind from to =
     IsTrue (is_crease_kind kind)
-    × HasSegment from to (λ s. IsTrue (is_on_sheet old.corners (stretch_of s)) × IsTrue (is_within_side old.corners (stretch_of s)))
+    × HasSegment from to
+    (λ s. IsTrue (is_on_sheet old.corners (stretch_of s))
+    × IsTrue (is_within_side old.corners (stretch_of s)))
 
 -- a crease of the sheet that has no exact common point with the piece of this number, and with none before it
 abbrev pub IsCreaseOutOfRange : PatternView → Kind → Point → Point → ℕ → Type 0
 IsCreaseOutOfRange old kind from to n =
-    HasSegment from to (λ s. IsTrue (is_crease old.corners (record { kind = kind; segment = s })) × IsFirstOutOfRange (stretch_of s) old.pieces n)
+    HasSegment from to (λ s. IsTrue (is_crease old.corners (record { kind = kind; segment = s }))
+    × IsFirstOutOfRange (stretch_of s) old.pieces n)
 
 -- an auxiliary line on the sheet, or a crease of the sheet whose common points are all exact
 abbrev pub IsStorable : PatternView → Kind → Segment → Type 0
 IsStorable old kind s =
     ((kind ≡ Aux) × IsTrue (is_on_sheet old.corners (stretch_of s)))
-    ⊎ (IsTrue (is_crease old.corners (record { kind = kind; segment = s })) × ((n : ℕ) → ¬ IsFirstOutOfRange (stretch_of s) old.pieces n))
+    ⊎ (IsTrue (is_crease old.corners (record { kind = kind; segment = s }))
+    × ((n : ℕ) → ¬ IsFirstOutOfRange (stretch_of s) old.pieces n))
 
 -- the pattern that the line would give has n pieces and auxiliary lines, too many
 pub record GivesTooMany (old : PatternView) (kind : Kind) (from to : Point) (n : ℕ) : Type 0 where

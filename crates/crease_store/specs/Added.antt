@@ -18,13 +18,17 @@ use Rattle.line_split.specs.Cuts.{is_meeting_point}
 abbrev pub covers : Stretch → Stretch → Bool
 covers s u = is_on u.from s && is_on u.to s
 
--- where pieces may end: at the ends of s and of the old pieces, and where s meets an old piece of another direction
+-- where pieces may end: at the ends of s and of the old pieces, and where s meets an old piece of another
+-- direction
 abbrev pub is_vertex : List Piece → Stretch → Position → Bool
-is_vertex old s v = is_end v s || list_any (λ p. is_end v (stretch_of p.segment) || is_meeting_point v s (stretch_of p.segment)) old
+is_vertex old s v =
+    is_end v s
+    || list_any (λ p. is_end v (stretch_of p.segment) || is_meeting_point v s (stretch_of p.segment)) old
 
 -- some old piece of this kind covers u
 abbrev pub IsCoveredInKind : List Piece → Stretch → Kind → Type 0
-IsCoveredInKind old u kind = (p : Piece) × Contains old p × IsTrue (covers (stretch_of p.segment) u) × (kind ≡ p.kind)
+IsCoveredInKind old u kind =
+    (p : Piece) × Contains old p × IsTrue (covers (stretch_of p.segment) u) × (kind ≡ p.kind)
 
 -- the new kind where s covers the piece, else that of an old piece that covers it
 abbrev pub HasAddedKind : List Piece → Kind → Stretch → Piece → Type 0
@@ -36,7 +40,9 @@ HasAddedKind old kind s q =
 pub record IsPieceOfAdd (old : List Piece) (kind : Kind) (s : Stretch) (q : Piece) : Type 0 where
   pub from_vertex : IsTrue (is_vertex old s (stretch_of q.segment).from)
   pub to_vertex : IsTrue (is_vertex old s (stretch_of q.segment).to)
-  pub none_between : (v : Position) → IsTrue (is_vertex old s v) → IsFalse (is_between v (stretch_of q.segment))
+  pub none_between : (v : Position)
+      → IsTrue (is_vertex old s v)
+      → IsFalse (is_between v (stretch_of q.segment))
   pub covered : HasAddedKind old kind s q
 
 -- s is one more crease
@@ -61,7 +67,8 @@ IsAdded old Valley s new = IsCreaseAdded old Valley s new
 IsAdded old Aux s new = IsLineAdded old s new
 
 -- the same with the segment between two points
-pub record IsAddedBetween (old : PatternView) (kind : Kind) (from to : Point) (new : PatternView) : Type 0 where
+pub record IsAddedBetween (old : PatternView) (kind : Kind) (from to : Point) (new : PatternView)
+    : Type 0 where
   pub segment : Segment
   pub ends : segment_of from to ≡ Some segment
   pub added : IsAdded old kind segment new

@@ -7,24 +7,24 @@ use Rattle.plane_geometry.specs.declared.Segment.{Segment}
 use Rattle.plane_geometry.specs.Position.{position_of, is_same_position}
 use Rattle.plane_geometry.specs.SegmentOf.{segment_of}
 use Rattle.plane_geometry.specs.SegmentView.{stretch_of}
-use Rattle.plane_geometry.specs.Stretch.{Stretch, is_touching}
+use Rattle.plane_geometry.specs.Stretch.{Stretch}
 use Rattle.crease_model.specs.declared.Kind.{Kind}
 use Rattle.crease_model.specs.declared.Kind.TheVariants.{Edge, Mountain, Valley, Aux}
 use Rattle.crease_model.specs.declared.Piece.{Piece}
 use Rattle.crease_model.specs.View.{PatternView}
 use Rattle.crease_model.specs.Sheet.{is_within_side}
 use Rattle.crease_model.specs.Rules.{is_on_sheet, size_of, most_pieces}
-use Rattle.line_split.specs.Cuts.{cuts_of}
+use Rattle.line_split.specs.Cuts.{cuts_of, touched, untouched}
 use Rattle.line_split.specs.Parts.{parts_of}
 use Rattle.crease_store.specs.declared.faults.StoreRefusal.{StoreRefusal}
-use Rattle.crease_store.specs.declared.faults.StoreRefusal.TheVariants.{ZeroLength, BadDirection, EdgeOffBorder, OutsideSheet, OnBorder, Crossing, TooManyPieces}
+use Rattle.crease_store.specs.declared.faults.StoreRefusal.TheVariants.{ZeroLength, BadDirection}
+use Rattle.crease_store.specs.declared.faults.StoreRefusal.TheVariants.{EdgeOffBorder, OutsideSheet}
+use Rattle.crease_store.specs.declared.faults.StoreRefusal.TheVariants.{OnBorder, Crossing}
+use Rattle.crease_store.specs.declared.faults.StoreRefusal.TheVariants.{TooManyPieces}
 use Rattle.crease_store.specs.Added.{covers}
 use Rattle.crease_store.specs.InOrder.{segment_at, line_at, with_in_order, with_all_in_order}
 
 -- ---- the pieces once a crease is added
-
-abbrev pub is_touched : Stretch → Piece → Bool
-is_touched s p = is_touching s (stretch_of p.segment)
 
 abbrev pub uncovered : Stretch → List Piece → List Piece
 uncovered s pieces = filter (λ q. not (covers s (stretch_of q.segment))) pieces
@@ -34,14 +34,16 @@ abbrev pub rest_of : Stretch → List Point → Piece → List Piece
 rest_of s cuts p = uncovered s (parts_of p cuts)
 
 abbrev pub rests_of : Stretch → List Point → List Piece → List Piece
-rests_of s cuts pieces = flat_map (rest_of s cuts) (filter (is_touched s) pieces)
+rests_of s cuts pieces = flat_map (rest_of s cuts) pieces
 
-abbrev pub untouched : Stretch → List Piece → List Piece
-untouched s pieces = filter (λ p. not (is_touched s p)) pieces
+-- what is left of these pieces, which s touches, and s itself, all cut at these points
+abbrev pub new_parts : List Piece → Kind → Segment → List Point → List Piece
+new_parts pieces kind s cuts =
+    rests_of (stretch_of s) cuts pieces ++ parts_of (record { kind = kind; segment = s }) cuts
 
--- what is left of the pieces that s touches, and s itself, all cut at these points
+-- the same of those among all pieces
 abbrev pub new_pieces : List Piece → Kind → Segment → List Point → List Piece
-new_pieces pieces kind s cuts = rests_of (stretch_of s) cuts pieces ++ parts_of (record { kind = kind; segment = s }) cuts
+new_pieces pieces kind s cuts = new_parts (touched (stretch_of s) pieces) kind s cuts
 
 -- these and the pieces that s does not touch
 abbrev pub pieces_with : List Piece → Kind → Segment → List Point → List Piece
@@ -95,9 +97,11 @@ segment_added pattern Aux s = line_added pattern s
 
 -- why there is no segment between two points
 abbrev pub segment_refusal : Point → Point → StoreRefusal
-segment_refusal from to = if is_same_position (position_of from) (position_of to) then ZeroLength else BadDirection
+segment_refusal from to =
+    if is_same_position (position_of from) (position_of to) then ZeroLength else BadDirection
 
-abbrev pub added_between : PatternView → Kind → Point → Point → Option Segment → Result PatternView StoreRefusal
+abbrev pub added_between : PatternView → Kind → Point → Point → Option Segment
+    → Result PatternView StoreRefusal
 added_between pattern kind from to None = Err (segment_refusal from to)
 added_between pattern kind from to (Some s) = segment_added pattern kind s
 

@@ -5,7 +5,10 @@ use Rattle.crease_model.specs.View.{PatternView}
 use Rattle.crease_store.specs.declared.faults.StoreFault.{StoreFault}
 use Rattle.crease_store.specs.declared.faults.StoreFault.TheVariants as fault
 use Rattle.crease_store.specs.declared.faults.StoreRefusal.{StoreRefusal}
-use Rattle.crease_store.specs.declared.faults.StoreRefusal.TheVariants.{ZeroLength, BadDirection, EdgeOffBorder, OutsideSheet, OnBorder, Crossing, TooManyPieces, NoSuchPiece}
+use Rattle.crease_store.specs.declared.faults.StoreRefusal.TheVariants.{ZeroLength, BadDirection}
+use Rattle.crease_store.specs.declared.faults.StoreRefusal.TheVariants.{EdgeOffBorder, OutsideSheet}
+use Rattle.crease_store.specs.declared.faults.StoreRefusal.TheVariants.{OnBorder, Crossing}
+use Rattle.crease_store.specs.declared.faults.StoreRefusal.TheVariants.{TooManyPieces, NoSuchPiece}
 
 -- the refusal that a fault tells; want of memory is none
 abbrev pub refusal_of : StoreFault → Option StoreRefusal

@@ -1,5 +1,6 @@
 -- Taking a piece away, giving it another kind, and clearing.
-use Rattle.std.specs.Prelude.{◌≡◌, ◌⊎◌, ◌↔◌, Bool, ◌&&◌, not, List, Ok, Err, Contains, IsTrue, map, filter, if◌then◌else◌}
+use Rattle.std.specs.Prelude.{◌≡◌, ◌⊎◌, ◌↔◌, Bool, ◌&&◌, not, List, Ok, Err, Contains, IsTrue, map, filter}
+use Rattle.std.specs.Prelude.{if◌then◌else◌}
 use Rattle.std.specs.List.{list_any}
 use Rattle.std.specs.declared.result.Result.{Result}
 use Rattle.plane_geometry.specs.declared.Point.{Point}
@@ -30,7 +31,8 @@ abbrev pub has_line : List Segment → Point → Point → Bool
 has_line lines p q = list_any (has_ends p q) lines
 
 abbrev pub without_piece : PatternView → Point → Point → PatternView
-without_piece pattern p q = record pattern { pieces = filter (λ piece. not (is_piece_between p q piece)) pattern.pieces }
+without_piece pattern p q =
+    record pattern { pieces = filter (λ piece. not (is_piece_between p q piece)) pattern.pieces }
 
 abbrev pub without_line : PatternView → Point → Point → PatternView
 without_line pattern p q = record pattern { aux = filter (λ s. not (has_ends p q s)) pattern.aux }
@@ -50,7 +52,8 @@ with_kind pattern kind p q = record pattern { pieces = map (in_kind kind p q) pa
 
 -- with the piece between p and q in this kind
 unfoldable pub set_of : PatternView → Kind → Point → Point → Result PatternView StoreRefusal
-set_of pattern kind p q = if has_piece pattern.pieces p q then Ok (with_kind pattern kind p q) else Err NoSuchPiece
+set_of pattern kind p q =
+    if has_piece pattern.pieces p q then Ok (with_kind pattern kind p q) else Err NoSuchPiece
 
 -- the same sheet with nothing on it
 abbrev pub clear_of : PatternView → PatternView

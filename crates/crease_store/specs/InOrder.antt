@@ -16,12 +16,14 @@ line_at s = s
 abbrev pub with_in_order : {X : Type 0} → (X → Segment) → List X → X → List X
 with_in_order segment_at [] new = new ∷ []
 with_in_order segment_at (x ∷ xs) new =
-    by_order (compare_segments (segment_at new) (segment_at x)) (new ∷ x ∷ xs) (new ∷ xs) (x ∷ with_in_order segment_at xs new)
+    by_order (compare_segments (segment_at new) (segment_at x)) (new ∷ x ∷ xs) (new ∷ xs)
+    (x ∷ with_in_order segment_at xs new)
 
 -- with each of these, one after another
 abbrev pub with_all_in_order : {X : Type 0} → (X → Segment) → List X → List X → List X
 with_all_in_order segment_at xs [] = xs
-with_all_in_order segment_at xs (new ∷ news) = with_all_in_order segment_at (with_in_order segment_at xs new) news
+with_all_in_order segment_at xs (new ∷ news) =
+    with_all_in_order segment_at (with_in_order segment_at xs new) news
 
 -- ---- the same in one walk
 
@@ -39,9 +41,14 @@ never_descends (p ∷ q ∷ ps) = not (is_before q.segment p.segment) && never_d
 -- of these and those, two pieces on one segment are one piece
 abbrev pub HaveOneOnEach : List Piece → List Piece → Type 0
 HaveOneOnEach pieces news =
-    (p q : Piece) → (Contains news p ⊎ Contains pieces p) → (Contains news q ⊎ Contains pieces q) → p.segment ≡ q.segment → p ≡ q
+    (p q : Piece)
+    → (Contains news p ⊎ Contains pieces p)
+    → (Contains news q ⊎ Contains pieces q)
+    → p.segment ≡ q.segment
+    → p ≡ q
 
--- of pieces those that stand before a new one are appended to others, and that one; left are those that stand behind it
+-- of pieces those that stand before a new one are appended to others, and that one; left are those that stand
+-- behind it
 pub record IsPutBetween (others pieces : List Piece) (new : Piece) (all left : List Piece) : Type 0 where
   pub front : List Piece
   pub appended : all ≡ others ++ front ++ new ∷ []

@@ -18,14 +18,17 @@ pub record LoadRefusal : Type 0 where
 abbrev pub refused_line : ℕ → StoreRefusal → LoadRefusal
 refused_line number refusal = record { number = number; refusal = refusal }
 
-abbrev pub after_line : ℕ → Result PatternView StoreRefusal → (PatternView → Result PatternView LoadRefusal) → Result PatternView LoadRefusal
+abbrev pub after_line : ℕ → Result PatternView StoreRefusal
+    → (PatternView → Result PatternView LoadRefusal)
+    → Result PatternView LoadRefusal
 after_line number (Ok pattern) rest = rest pattern
 after_line number (Err refusal) rest = Err (refused_line number refusal)
 
 -- the pattern with these lines, or the number and the refusal of the first one that is refused
 abbrev pub load_from : List LoadLine → PatternView → Result PatternView LoadRefusal
 load_from [] pattern = Ok pattern
-load_from (line ∷ lines) pattern = after_line line.number (add_of pattern line.kind line.from line.to) (load_from lines)
+load_from (line ∷ lines) pattern =
+    after_line line.number (add_of pattern line.kind line.from line.to) (load_from lines)
 
 unfoldable pub load_of : PatternView → List LoadLine → Result PatternView LoadRefusal
 load_of pattern lines = load_from lines (empty_on pattern.corners)
@@ -44,10 +47,12 @@ IsLoadAnswer (Err e) answer = IsLoadRefusal e.number (refusal_of e.fault) answer
 -- new is old with each of the lines added, in order
 abbrev pub IsLoaded : PatternView → List LoadLine → PatternView → Type 0
 IsLoaded old [] new = new ≡ old
-IsLoaded old (line ∷ lines) new = (next : PatternView) × IsAddedBetween old line.kind line.from line.to next × IsLoaded next lines new
+IsLoaded old (line ∷ lines) new =
+    (next : PatternView) × IsAddedBetween old line.kind line.from line.to next × IsLoaded next lines new
 
 -- the lines before one are added, and that one is refused
-pub record IsFirstRefused (old : PatternView) (lines : List LoadLine) (number : ℕ) (refusal : StoreRefusal) : Type 0 where
+pub record IsFirstRefused (old : PatternView) (lines : List LoadLine) (number : ℕ) (refusal : StoreRefusal)
+    : Type 0 where
   pub earlier : List LoadLine
   pub line : LoadLine
   pub later : List LoadLine

@@ -1,5 +1,8 @@
--- Merging: pieces of one direction and kind that are joined at vertices where nothing else ends become one piece.
-use Rattle.std.specs.Prelude.{◌≡◌, ◌≢◌, ◌⊎◌, ◌↔◌, ⊤, Contains, IsTrue, IsFalse, ℕ, zero, suc, Bool, true, false, ◌&&◌, nat_eq, List, [], ◌∷◌, length, filter, Option, None, Some, unwrap_or, if◌then◌else◌}
+-- Merging: pieces of one direction and kind that are joined at vertices where nothing else ends become one
+-- piece.
+use Rattle.std.specs.Prelude.{◌≡◌, ◌≢◌, ◌⊎◌, ◌↔◌, ⊤, Contains, IsTrue, IsFalse, ℕ, zero, suc, Bool, true}
+use Rattle.std.specs.Prelude.{false, ◌&&◌, nat_eq, List, [], ◌∷◌, length, filter, Option, None, Some}
+use Rattle.std.specs.Prelude.{unwrap_or, if◌then◌else◌}
 use Rattle.plane_geometry.specs.declared.Point.{Point}
 use Rattle.plane_geometry.specs.declared.Segment.{Segment}
 use Rattle.plane_geometry.specs.Position.{position_of, is_same_position}
@@ -41,14 +44,15 @@ are_alike None _ = false
 are_alike (Some p) None = false
 are_alike (Some p) (Some q) = is_alike p q
 
--- exactly two pieces end at v, in opposite directions and of one kind: since each piece runs from its lesser end to its
--- greater, one arrives at v, and one goes on from there in its direction
+-- exactly two pieces end at v, in opposite directions and of one kind: since each piece runs from its lesser
+-- end to its greater, one arrives at v, and one goes on from there in its direction
 unfoldable pub is_loose : List Piece → Point → Bool
 is_loose pieces v = are_alike (only_to pieces v) (only_from pieces v)
 
 -- the piece that goes on from p, if p ends at a loose vertex
 unfoldable pub next_piece : List Piece → Piece → Option Piece
-next_piece pieces p = if is_loose pieces (greater_end p.segment) then only_from pieces (greater_end p.segment) else None
+next_piece pieces p =
+    if is_loose pieces (greater_end p.segment) then only_from pieces (greater_end p.segment) else None
 
 -- the piece that is reached from p in at most n steps
 abbrev pub last_piece : ℕ → List Piece → Piece → Piece
@@ -56,7 +60,8 @@ last_piece zero pieces p = p
 last_piece (suc n) pieces p = last_piece n pieces (unwrap_or (next_piece pieces p) p)
 
 abbrev pub joined_to : Piece → Piece → Piece
-joined_to p q = record p { segment = unwrap_or (segment_of (lesser_end p.segment) (greater_end q.segment)) p.segment }
+joined_to p q =
+    record p { segment = unwrap_or (segment_of (lesser_end p.segment) (greater_end q.segment)) p.segment }
 
 -- the chain that begins with p, as one piece
 unfoldable pub merged_from : List Piece → Piece → Piece
@@ -114,7 +119,8 @@ pub record IsMerged (old new : PatternView) : Type 0 where
 -- the direction in which s leaves v, one of its ends
 abbrev pub direction_from : Point → Segment → ℕ
 direction_from v s =
-    if is_same_position (position_of v) (position_of (lesser_end s)) then direction_number s else opposite_number (direction_number s)
+    if is_same_position (position_of v) (position_of (lesser_end s)) then direction_number s
+    else opposite_number (direction_number s)
 
 -- exactly two pieces end at v, in opposite directions and of one kind
 pub record IsLoose (pieces : List Piece) (v : Point) : Type 0 where
@@ -125,6 +131,9 @@ pub record IsLoose (pieces : List Piece) (v : Point) : Type 0 where
   pub two : one ≢ other
   pub one_ends : IsTrue (is_end (position_of v) (stretch_of one.segment))
   pub other_ends : IsTrue (is_end (position_of v) (stretch_of other.segment))
-  pub no_third : (z : Piece) → Contains pieces z → IsTrue (is_end (position_of v) (stretch_of z.segment)) → (z ≡ one) ⊎ (z ≡ other)
+  pub no_third : (z : Piece)
+      → Contains pieces z
+      → IsTrue (is_end (position_of v) (stretch_of z.segment))
+      → (z ≡ one) ⊎ (z ≡ other)
   pub opposite : direction_from v one.segment ≡ opposite_number (direction_from v other.segment)
   pub kind : one.kind ≡ other.kind

@@ -7,7 +7,10 @@ use Rattle.crease_store.specs.Merged.{is_loose, IsLoose, IsMerged}
 
 -- exactly two pieces end at a loose vertex, in opposite directions and of one kind
 abbrev pub LooseIsTwo : Type 0
-LooseIsTwo = (pattern : PatternView) (v : Point) → IsPattern pattern → IsTrue (is_loose pattern.pieces v) ↔ IsLoose pattern.pieces v
+LooseIsTwo =
+    (pattern : PatternView) (v : Point)
+    → IsPattern pattern
+    → IsTrue (is_loose pattern.pieces v) ↔ IsLoose pattern.pieces v
 
 -- there is one pattern at most that is another merged
 abbrev pub MergedIsOne : Type 0

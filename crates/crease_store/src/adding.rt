@@ -1,25 +1,32 @@
 //! Adding a line.
 
-ghost use Rattle.std.specs.Prelude.{◌≡◌, ◌↔◌, ℕ, ◌++◌, length, take, Ok, Some, IfOk, IsOk, IsErrOf, OnOk, OnErr, IsTrue};
+ghost use Rattle.std.specs.Prelude.{◌≡◌, ◌↔◌, ℕ, ◌≤◌, ◌++◌, length, take, drop, Ok, Some};
+ghost use Rattle.std.specs.Prelude.{IfOk, IsOk, IsErrOf, OnOk, MatchResult, IsTrue};
 ghost use Rattle.crease_store.specs.declared.faults.StoreRefusal.{StoreRefusal};
 ghost use Rattle.std.specs.Bool.{IsFalse};
 ghost use Rattle.plane_geometry.specs.SegmentView.{stretch_of};
-ghost use Rattle.crease_model.specs.Rules.{IsPattern, is_ascending, is_crease_kind, is_on_sheet, segments_of};
+ghost use Rattle.crease_model.specs.Rules.{IsPattern, is_ascending, is_crease_kind, is_on_sheet};
+ghost use Rattle.crease_model.specs.Rules.{most_pieces, segments_of};
 ghost use Rattle.crease_model.specs.Sheet.{is_sheet, is_outside, is_within_side};
-ghost use Rattle.line_split.specs.Cuts.{cuts_of};
+ghost use Rattle.line_split.specs.Answer.{IsCutFault};
+ghost use Rattle.line_split.specs.Cuts.{cuts_of, touched, untouched};
 ghost use Rattle.line_split.specs.Parts.{parts_of};
 ghost use Rattle.line_split.specs.Points.{is_rising};
 ghost use Rattle.crease_store.specs.Added.{covers, IsAddedBetween};
-ghost use Rattle.crease_store.specs.InOrder.{line_at, with_in_order, HaveOneOnEach};
-ghost use Rattle.crease_store.specs.Adding.{add_of, segment_added, edge_added, line_added, crease_added, new_pieces, pieces_with, with_crease, with_line, untouched, uncovered, rest_of, rests_of, if_it_fits, segment_refusal};
-ghost use Rattle.crease_store.specs.AddRefusals.{HaveNoDirection, IsEdgeOffBorder, IsOutsideSheet, IsCreaseOnBorder, IsCreaseOutOfRange, GivesTooMany, IsRefusedFor};
+ghost use Rattle.crease_store.specs.InOrder.{line_at, with_in_order};
+ghost use Rattle.crease_store.specs.Adding.{add_of, segment_added, edge_added, line_added, crease_added};
+ghost use Rattle.crease_store.specs.Adding.{with_crease, new_parts, uncovered, rest_of, rests_of, if_it_fits};
+ghost use Rattle.crease_store.specs.Adding.{segment_refusal};
+ghost use Rattle.crease_store.specs.AddRefusals.{HaveNoDirection, IsEdgeOffBorder, IsOutsideSheet};
+ghost use Rattle.crease_store.specs.AddRefusals.{IsCreaseOnBorder, IsCreaseOutOfRange, GivesTooMany};
+ghost use Rattle.crease_store.specs.AddRefusals.{IsRefusedFor};
 ghost use Rattle.crease_store.specs.Answer.{IsAnswer, HasMemory, refusal_of};
 
 use crate::faults::StoreFault;
 use crate::placing::{place_line, place_pieces};
 use crease_model::{Kind, MOST_PIECES, Pattern, Piece, Place, Sheet};
-use line_split::{SplitFault, cut_at, cut_points};
-use plane_geometry::{Point, Segment, on_segment, share_point};
+use line_split::{Cutting, SplitFault, cut_at, cut_points};
+use plane_geometry::{Point, Segment, on_segment};
 use std::alloc::{AllocError, Global};
 
 fn outside(place: Place) -> bool
@@ -45,21 +52,37 @@ fn covering(s: &Segment, u: &Segment) -> bool
     on_segment(u.from(), s) && on_segment(u.to(), s)
 }
 
-// The pieces that the segment does not touch.
-fn keep_untouched(alloc: Global, pieces: &[Piece], s: &Segment) -> Result<Vec<Piece>, AllocError>
-    ensures { IfOk result (λ kept. kept.items ≡ untouched (stretch_of s.now) pieces.now) }
+// How many of ascending pieces begin before the segment ends, or there. It touches none of the others.
+fn reach_of(pieces: &[Piece], s: &Segment) -> usize
+    requires { IsTrue (is_ascending (segments_of pieces.now)) }
+    ensures bound { result ≤ length pieces.now }
+    ensures cuts { cuts_of s.now (take result pieces.now) ≡ cuts_of s.now pieces.now }
+    ensures touched { touched (stretch_of s.now) (take result pieces.now)
+        ≡ touched (stretch_of s.now) pieces.now }
+    ensures others { untouched (stretch_of s.now) (take result pieces.now) ++ drop result pieces.now
+        ≡ untouched (stretch_of s.now) pieces.now }
 {
-    let mut kept = Vec::with_capacity(alloc, pieces.len())?;
-    for piece in pieces {
-        if !share_point(s, &piece.segment) {
-            kept.push(*piece)?;
-        }
-    }
-    Ok(kept)
+    pieces.partition_point(|piece| !s.to().cmp(piece.segment.from()).is_lt())
 }
 
-// Those of ascending points that do not come before one end of a piece and come before the other: among them are those that cut
-// it.
+// What the segment does to ascending pieces.
+fn cutting_of(alloc: Global, s: &Segment, pieces: &[Piece]) -> Result<Cutting, SplitFault>
+    requires up { IsTrue (is_ascending (segments_of pieces.now)) }
+    requires few { length pieces.now ≤ most_pieces }
+    ensures points { MatchResult result
+        (λ cutting. cuts_of s.now pieces.now ≡ Ok cutting.points.items)
+        (λ fault. IsCutFault fault (cuts_of s.now pieces.now)) }
+    ensures touched { IfOk result (λ cutting. cutting.touched.items ≡ touched (stretch_of s.now) pieces.now) }
+    ensures others { IfOk result (λ cutting. cutting.others.items ≡ untouched (stretch_of s.now) pieces.now) }
+{
+    let reach = reach_of(pieces, s);
+    let mut cutting = cut_points(alloc, s, &pieces[..reach])?;
+    cutting.others.extend_from_slice(&pieces[reach..])?;
+    Ok(cutting)
+}
+
+// Those of ascending points that do not come before one end of a piece and come before the other: among them
+// are those that cut it.
 fn own_cuts<'a>(piece: &Piece, cuts: &'a [Point]) -> &'a [Point]
     requires { IsTrue (is_rising cuts.now) }
     ensures { parts_of piece.now result.now ≡ parts_of piece.now cuts.now }
@@ -90,13 +113,14 @@ fn push_rest(
     piece: &Piece,
 ) -> Result<(), AllocError>
     requires { IsTrue (is_rising cuts.now) }
-    ensures { OnOk result (rests.new.items ≡ rests.old.items ++ rest_of (stretch_of s.now) cuts.now piece.now) }
+    ensures { OnOk result (rests.new.items
+        ≡ rests.old.items ++ rest_of (stretch_of s.now) cuts.now piece.now) }
 {
     let parts = cut_at(*rests.allocator(), piece, own_cuts(piece, cuts))?;
     push_uncovered(rests, s, parts.as_slice())
 }
 
-// What is left of the pieces that the segment touches.
+// What is left of pieces that the segment touches.
 fn cut_rests(
     alloc: Global,
     pieces: &[Piece],
@@ -108,31 +132,27 @@ fn cut_rests(
 {
     let mut rests = Vec::new(alloc);
     for piece in pieces {
-        if share_point(s, &piece.segment) {
-            push_rest(&mut rests, s, cuts, piece)?;
-        }
+        push_rest(&mut rests, s, cuts, piece)?;
     }
     Ok(rests)
 }
 
-// The pieces once a segment is added that is cut at these points.
-fn cut_in(
+// What is left of the touched pieces, and the segment, all cut.
+fn cut_parts(
     alloc: Global,
-    pieces: &[Piece],
     kind: Kind,
     s: &Segment,
-    cuts: &[Point],
+    cutting: &Cutting,
 ) -> Result<Vec<Piece>, AllocError>
-    requires up { IsTrue (is_ascending (segments_of pieces.now)) }
-    requires rising { IsTrue (is_rising cuts.now) }
-    requires one { HaveOneOnEach (untouched (stretch_of s.now) pieces.now) (new_pieces pieces.now kind s.now cuts.now) }
-    ensures { IfOk result (λ all. all.items ≡ pieces_with pieces.now kind s.now cuts.now) }
+    requires { IsTrue (is_rising cutting.now.points.items) }
+    ensures { IfOk result (λ parts. parts.items
+        ≡ new_parts cutting.now.touched.items kind s.now cutting.now.points.items) }
 {
-    let mut news = cut_rests(alloc, pieces, s, cuts)?;
+    let cuts = cutting.points.as_slice();
+    let mut all = cut_rests(alloc, cutting.touched.as_slice(), s, cuts)?;
     let parts = cut_at(alloc, &Piece { kind, segment: *s }, cuts)?;
-    news.extend_from_slice(parts.as_slice())?;
-    let kept = keep_untouched(alloc, pieces, s)?;
-    place_pieces(alloc, kept.as_slice(), news)
+    all.extend_from_slice(parts.as_slice())?;
+    Ok(all)
 }
 
 fn add_cut(
@@ -140,16 +160,20 @@ fn add_cut(
     pattern: &Pattern,
     kind: Kind,
     s: &Segment,
-    cuts: &[Point],
+    cutting: &Cutting,
 ) -> Result<Pattern, StoreFault>
+    requires rules { IsPattern pattern.now }
     requires sheet { IsTrue (is_sheet pattern.now.corners) }
     requires kind { IsTrue (is_crease_kind kind) }
     requires on_sheet { IsTrue (is_on_sheet pattern.now.corners (stretch_of s.now)) }
     requires inside { IsFalse (is_within_side pattern.now.corners (stretch_of s.now)) }
-    requires cuts { cuts_of s.now pattern.now.pieces ≡ Ok cuts.now }
-    ensures { IsAnswer result (if_it_fits (with_crease pattern.now kind s.now cuts.now)) }
+    requires cuts { cuts_of s.now pattern.now.pieces ≡ Ok cutting.now.points.items }
+    requires touched { cutting.now.touched.items ≡ touched (stretch_of s.now) pattern.now.pieces }
+    requires others { cutting.now.others.items ≡ untouched (stretch_of s.now) pattern.now.pieces }
+    ensures { IsAnswer result (if_it_fits (with_crease pattern.now kind s.now cutting.now.points.items)) }
 {
-    let pieces = cut_in(alloc, pattern.pieces(), kind, s, cuts)?;
+    let parts = cut_parts(alloc, kind, s, cutting)?;
+    let pieces = place_pieces(alloc, cutting.others.as_slice(), parts)?;
     let size = pieces.as_slice().len() + pattern.aux().len();
     if size > MOST_PIECES {
         return Err(StoreFault::TooManyPieces {
@@ -174,8 +198,8 @@ fn add_crease(
     if pattern.sheet().on_border(s) {
         return Err(StoreFault::OnBorder);
     }
-    match cut_points(alloc, s, pattern.pieces()) {
-        Ok(cuts) => add_cut(alloc, pattern, kind, s, cuts.as_slice()),
+    match cutting_of(alloc, s, pattern.pieces()) {
+        Ok(cutting) => add_cut(alloc, pattern, kind, s, &cutting),
         Err(SplitFault::OutOfRange { piece }) => Err(StoreFault::Crossing { piece }),
         Err(SplitFault::Memory) => Err(StoreFault::Memory),
     }
@@ -259,8 +283,8 @@ fn add_between(
     }
 }
 
-/// The pattern with one more line: a crease, which cuts and is cut and takes the place of what it covers, or an auxiliary
-/// line. An edge of the sheet changes nothing.
+/// The pattern with one more line: a crease, which cuts and is cut and takes the place of what it covers, or
+/// an auxiliary line. An edge of the sheet changes nothing.
 pub fn add(
     alloc: Global,
     pattern: &Pattern,
@@ -270,7 +294,8 @@ pub fn add(
 ) -> Result<Pattern, StoreFault>
     ensures added { IfOk result (λ new. IsAddedBetween pattern.now kind from.now to.now new) }
     ensures zero_length { IsErrOf result StoreFault.ZeroLength ↔ (HasMemory result × (from.now ≡ to.now)) }
-    ensures bad_direction { IsErrOf result StoreFault.BadDirection ↔ (HasMemory result × HaveNoDirection from.now to.now) }
+    ensures bad_direction { IsErrOf result StoreFault.BadDirection
+        ↔ (HasMemory result × HaveNoDirection from.now to.now) }
     ensures edge_off_border { IsErrOf result StoreFault.EdgeOffBorder
         ↔ (HasMemory result × IsEdgeOffBorder pattern.now kind from.now to.now) }
     ensures outside_sheet { IsErrOf result StoreFault.OutsideSheet
@@ -281,7 +306,8 @@ pub fn add(
         ↔ (HasMemory result × IsCreaseOutOfRange pattern.now kind from.now to.now n) }
     ensures too_many { (n : ℕ) → IsErrOf result (StoreFault.TooManyPieces n)
         ↔ (HasMemory result × GivesTooMany pattern.now kind from.now to.now n) }
-    ensures accepted { ((refusal : StoreRefusal) → ¬ IsRefusedFor pattern.now kind from.now to.now refusal) → HasMemory result → IsOk result }
+    ensures accepted { ((refusal : StoreRefusal) → ¬ IsRefusedFor pattern.now kind from.now to.now refusal)
+        → HasMemory result → IsOk result }
     ensures exact { IsAnswer result (add_of pattern.now kind from.now to.now) }
 {
     // tells the rules that the pattern keeps

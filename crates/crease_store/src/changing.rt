@@ -3,7 +3,9 @@
 ghost use Rattle.std.specs.Prelude.{◌≡◌, ◌↔◌, [], Ok, Err, IfOk, IsErrOf, IsTrue, not, map, filter};
 ghost use Rattle.plane_geometry.specs.Ends.{lesser_of, greater_of};
 ghost use Rattle.crease_model.specs.Rules.{is_crease_kind};
-ghost use Rattle.crease_store.specs.Changed.{has_ends, is_piece_between, has_piece, has_line, without_piece, without_line, delete_of, in_kind, with_kind, set_of, clear_of, HasPiece, HasLine, IsDeleted, IsKindSet};
+ghost use Rattle.crease_store.specs.Changed.{has_ends, is_piece_between, has_piece, has_line, without_piece};
+ghost use Rattle.crease_store.specs.Changed.{without_line, delete_of, in_kind, with_kind, set_of, clear_of};
+ghost use Rattle.crease_store.specs.Changed.{HasPiece, HasLine, IsDeleted, IsKindSet};
 ghost use Rattle.crease_store.specs.Answer.{IsAnswer, HasMemory};
 
 use crate::faults::StoreFault;
@@ -58,7 +60,8 @@ fn pieces_without(
     from: &Point,
     to: &Point,
 ) -> Result<Vec<Piece>, AllocError>
-    ensures { IfOk result (λ rest. rest.items ≡ filter (λ piece. not (is_piece_between from.now to.now piece)) pieces.now) }
+    ensures { IfOk result (λ rest. rest.items
+        ≡ filter (λ piece. not (is_piece_between from.now to.now piece)) pieces.now) }
 {
     let mut rest = Vec::with_capacity(alloc, pieces.len())?;
     for piece in pieces {
@@ -170,7 +173,8 @@ fn delete_between(
     }
 }
 
-/// The pattern without the piece between two points, in either order, else without the auxiliary line between them.
+/// The pattern without the piece between two points, in either order, else without the auxiliary line between
+/// them.
 pub fn delete(
     alloc: Global,
     pattern: &Pattern,
@@ -179,7 +183,8 @@ pub fn delete(
 ) -> Result<Pattern, StoreFault>
     ensures deleted { IfOk result (λ new. IsDeleted pattern.now from.now to.now new) }
     ensures no_such_piece { IsErrOf result StoreFault.NoSuchPiece
-        ↔ (HasMemory result × ((¬ HasPiece pattern.now from.now to.now) × (¬ HasLine pattern.now from.now to.now))) }
+        ↔ (HasMemory result
+        × ((¬ HasPiece pattern.now from.now to.now) × (¬ HasLine pattern.now from.now to.now))) }
     ensures exact { IsAnswer result (delete_of pattern.now from.now to.now) }
 {
     // tells the rules that the pattern keeps
@@ -216,7 +221,8 @@ pub fn set_kind(
 ) -> Result<Pattern, StoreFault>
     requires { IsTrue (is_crease_kind kind) }
     ensures set { IfOk result (λ new. IsKindSet pattern.now kind from.now to.now new) }
-    ensures no_such_piece { IsErrOf result StoreFault.NoSuchPiece ↔ (HasMemory result × (¬ HasPiece pattern.now from.now to.now)) }
+    ensures no_such_piece { IsErrOf result StoreFault.NoSuchPiece
+        ↔ (HasMemory result × (¬ HasPiece pattern.now from.now to.now)) }
     ensures exact { IsAnswer result (set_of pattern.now kind from.now to.now) }
 {
     set_between(alloc, pattern, kind, from, to)
@@ -224,7 +230,8 @@ pub fn set_kind(
 
 /// The same sheet with nothing on it.
 pub fn clear(pattern: &Pattern) -> Result<Pattern, StoreFault>
-    ensures cleared { IfOk result (λ new. (new.corners ≡ pattern.now.corners) × (new.pieces ≡ []) × (new.aux ≡ [])) }
+    ensures cleared { IfOk result
+        (λ new. (new.corners ≡ pattern.now.corners) × (new.pieces ≡ []) × (new.aux ≡ [])) }
     ensures exact { IsAnswer result (Ok (clear_of pattern.now)) }
 {
     Ok(Pattern::empty(pattern.sheet().copy()?))

@@ -29,7 +29,8 @@ pub enum StoreFault {
     Memory,
 }
 
-/// Why a change is refused, however much memory there is. The variants are those of `StoreFault` but for want of memory.
+/// Why a change is refused, however much memory there is. The variants are those of `StoreFault` but for want
+/// of memory.
 #[derive(Clone, Copy, Debug, PartialEq, Eq)]
 pub enum StoreRefusal {
     ZeroLength,

@@ -1,11 +1,13 @@
 //! Loading lines.
 
-ghost use Rattle.std.specs.Prelude.{◌≡◌, Contains, IsTrue, Ok, Err, IfOk, IfErr, IfSome, IsSome, IsNone, drop};
+ghost use Rattle.std.specs.Prelude.{◌≡◌, Contains, IsTrue, Ok, Err, IfOk, IfErr, IfSome, IsSome, IsNone};
+ghost use Rattle.std.specs.Prelude.{drop};
 ghost use Rattle.crease_model.specs.View.{empty_on};
 ghost use Rattle.crease_store.specs.Adding.{add_of};
 ghost use Rattle.crease_store.specs.AddRefusals.{HasSegment};
 ghost use Rattle.crease_store.specs.Answer.{IsAnswer, refusal_of};
-ghost use Rattle.crease_store.specs.Loading.{load_of, load_from, after_line, IsLoadAnswer, IsLoaded, IsFirstRefused};
+ghost use Rattle.crease_store.specs.Loading.{load_of, load_from, after_line, IsLoadAnswer, IsLoaded};
+ghost use Rattle.crease_store.specs.Loading.{IsFirstRefused};
 
 use crate::adding::add;
 use crate::faults::StoreFault;
@@ -88,7 +90,9 @@ fn is_there(pattern: &Pattern, line: &LoadLine) -> bool
 
 // A pattern that has the line already is not copied.
 fn add_loaded(alloc: Global, pattern: Pattern, line: &LoadLine) -> Result<Pattern, LoadStoreFault>
-    ensures { IsLoadAnswer result (after_line line.now.number (add_of pattern line.now.kind line.now.from line.now.to) (λ new. Ok new)) }
+    ensures { IsLoadAnswer result
+        (after_line line.now.number (add_of pattern line.now.kind line.now.from line.now.to)
+        (λ new. Ok new)) }
 {
     if is_there(&pattern, line) {
         return Ok(pattern);
@@ -118,7 +122,8 @@ fn load_lines(
 /// The sheet of a pattern with these lines, each added in order.
 pub fn load(alloc: Global, pattern: &Pattern, lines: &[LoadLine]) -> Result<Pattern, LoadStoreFault>
     ensures loaded { IfOk result (λ new. IsLoaded (empty_on pattern.now.corners) lines.now new) }
-    ensures refused { IfErr result (λ e. IfSome (refusal_of e.fault) (λ refusal. IsFirstRefused (empty_on pattern.now.corners) lines.now e.number refusal)) }
+    ensures refused { IfErr result (λ e. IfSome (refusal_of e.fault)
+        (λ refusal. IsFirstRefused (empty_on pattern.now.corners) lines.now e.number refusal)) }
     ensures exact { IsLoadAnswer result (load_of pattern.now lines.now) }
 {
     // tells the rules that the sheet keeps

@@ -4,9 +4,12 @@ ghost use Rattle.std.specs.Prelude.{◌≡◌, ◌&&◌, Ok, Contains, IfOk, IsT
 ghost use Rattle.plane_geometry.specs.declared.Point.{Point};
 ghost use Rattle.plane_geometry.specs.SegmentView.{stretch_of};
 ghost use Rattle.crease_model.specs.declared.Piece.{Piece};
-ghost use Rattle.crease_store.specs.Merged.{begins_at, arrives_at, only_from, only_to, is_alike, are_alike, is_loose, next_piece, last_piece, joined_to, merged_from, merged_among, merge_of, IsMerged};
+ghost use Rattle.crease_store.specs.Merged.{begins_at, arrives_at, only_from, only_to, is_alike, are_alike};
+ghost use Rattle.crease_store.specs.Merged.{is_loose, next_piece, last_piece, joined_to, merged_from};
+ghost use Rattle.crease_store.specs.Merged.{merged_among, merge_of, IsMerged};
 ghost use Rattle.crease_model.specs.Rules.{IsPattern, is_ascending, segments_of};
-ghost use Rattle.crease_store.specs.Rising.{beginning_of, arrival_of, is_sorted_by, first_passes, first_alone, AreSorted};
+ghost use Rattle.crease_store.specs.Rising.{beginning_of, arrival_of, is_sorted_by, first_passes};
+ghost use Rattle.crease_store.specs.Rising.{first_alone, AreSorted};
 ghost use Rattle.crease_store.specs.Added.{covers};
 ghost use Rattle.crease_store.specs.Answer.{IsAnswer};
 
@@ -113,8 +116,8 @@ fn both_alike(one: Option<Piece>, other: Option<Piece>) -> bool
     }
 }
 
-// Whether exactly two pieces end at a point, in opposite directions and of one kind. The arrivals are the pieces by their
-// greater ends.
+// Whether exactly two pieces end at a point, in opposite directions and of one kind. The arrivals are the
+// pieces by their greater ends.
 #[tactic(auto, unfolding(crate::specs::Merged::is_loose))]
 fn loose(pieces: &[Piece], arrivals: &[Piece], v: &Point) -> bool
     requires { AreSorted pieces.now arrivals.now }
@@ -209,12 +212,15 @@ fn merge_pattern(alloc: Global, pattern: &Pattern) -> Result<Pattern, AllocError
     pattern.with_pieces(merged_pieces(alloc, pattern.pieces())?)
 }
 
-/// The pattern with all loose vertices taken away at once: where exactly two pieces end at a vertex, in opposite directions
-/// and of one kind, they become one piece.
+/// The pattern with all loose vertices taken away at once: where exactly two pieces end at a vertex, in
+/// opposite directions and of one kind, they become one piece.
 pub fn merge(alloc: Global, pattern: &Pattern) -> Result<Pattern, StoreFault>
     ensures merged { IfOk result (λ new. IsMerged pattern.now new) }
     ensures covering { IfOk result (λ new. (z : Piece) → Contains pattern.now.pieces z
-        → (q : Piece) × Contains new.pieces q × IsTrue (covers (stretch_of q.segment) (stretch_of z.segment)) × (q.kind ≡ z.kind)) }
+        → (q : Piece)
+        × Contains new.pieces q
+        × IsTrue (covers (stretch_of q.segment) (stretch_of z.segment))
+        × (q.kind ≡ z.kind)) }
     ensures none_loose { IfOk result (λ new. (v : Point) → IsFalse (is_loose new.pieces v)) }
     ensures exact { IsAnswer result (Ok (merge_of pattern.now)) }
 {

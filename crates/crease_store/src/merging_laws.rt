@@ -1,4 +1,5 @@
-//! What loose vertices and merged patterns are. These functions do nothing: each contract is a law of the patterns.
+//! What loose vertices and merged patterns are. These functions do nothing: each contract is a law of the
+//! patterns.
 
 ghost use Rattle.crease_store.specs.MergedLaws.{LooseIsTwo, MergedIsOne};
 

@@ -1,9 +1,11 @@
 //! Lists in the order of segments.
 
-ghost use Rattle.std.specs.Prelude.{◌≡◌, ◌++◌, ◌∷◌, ◌<◌, ◌≤◌, ◌+◌, take, drop, length, IfOk, IsTrue, OnOk, OnErr, MatchResult};
+ghost use Rattle.std.specs.Prelude.{◌≡◌, ◌++◌, ◌∷◌, ◌<◌, ◌≤◌, ◌+◌, take, drop, length, IfOk, IsTrue};
+ghost use Rattle.std.specs.Prelude.{OnOk, OnErr, MatchResult};
 ghost use Rattle.std.specs.List.Sorted.{IsPermutation};
 ghost use Rattle.crease_model.specs.Rules.{is_ascending, segments_of};
-ghost use Rattle.crease_store.specs.InOrder.{segment_at, line_at, with_in_order, with_all_in_order, begins_on, never_descends, HaveOneOnEach, IsPutBetween};
+ghost use Rattle.crease_store.specs.InOrder.{segment_at, line_at, with_in_order, with_all_in_order};
+ghost use Rattle.crease_store.specs.InOrder.{begins_on, never_descends, HaveOneOnEach, IsPutBetween};
 
 use crease_model::Piece;
 use plane_geometry::Segment;
@@ -14,8 +16,10 @@ fn place_for(pieces: &[Piece], piece: &Piece) -> Result<usize, usize>
     requires { IsTrue (is_ascending (segments_of pieces.now)) }
     ensures bound { MatchResult result (λ i. i < length pieces.now) (λ i. i ≤ length pieces.now) }
     ensures value { MatchResult result
-        (λ i. with_in_order segment_at pieces.now piece.now ≡ take i pieces.now ++ piece.now ∷ drop (i + 1) pieces.now)
-        (λ i. with_in_order segment_at pieces.now piece.now ≡ take i pieces.now ++ piece.now ∷ drop i pieces.now) }
+        (λ i. with_in_order segment_at pieces.now piece.now
+        ≡ take i pieces.now ++ piece.now ∷ drop (i + 1) pieces.now)
+        (λ i. with_in_order segment_at pieces.now piece.now
+        ≡ take i pieces.now ++ piece.now ∷ drop i pieces.now) }
 {
     let i = pieces.partition_point(|other| other.segment.cmp(&piece.segment).is_lt());
     if i < pieces.len() && pieces[i].segment.cmp(&piece.segment).is_eq() {
@@ -87,8 +91,8 @@ fn put_in<'a>(
     push_new(all, pieces, new)
 }
 
-// Ascending pieces with others put into their places, in one walk. The others don't descend; of those on one segment the
-// last one stays.
+// Ascending pieces with others put into their places, in one walk. The others don't descend; of those on one
+// segment the last one stays.
 fn merged_in(alloc: Global, pieces: &[Piece], news: &[Piece]) -> Result<Vec<Piece>, AllocError>
     requires up { IsTrue (is_ascending (segments_of pieces.now)) }
     requires news { IsTrue (never_descends news.now) }

@@ -1,5 +1,7 @@
 -- Points gathered as they come, and then sorted.
-use Rattle.std.proofs.Common.{◌≡◌, true, ◌⊎◌, inl, inr, List, [], ◌∷◌, ◌++◌, refl, sym, ap, subst, ◌∙◌}
+use Rattle.std.proofs.Common.{◌≡◌, ℕ, ◌+◌, Bool, true, false, cond, ◌⊎◌, inl, inr, List, [], ◌∷◌, ◌++◌, refl, sym, ap, subst, ◌∙◌, append_assoc}
+use Rattle.std.specs.Prelude.{Option, Some, filter}
+use Rattle.std.specs.declared.result.Result.{Result}
 use Rattle.std.specs.List.Retain.{IsFiltered, DiffersFromLast}
 use Rattle.std.specs.List.Sorted.{IsSorted, IsPermutation}
 use Rattle.std.specs.declared.cmp.Ordering.{Ordering}
@@ -10,6 +12,9 @@ use Rattle.plane_geometry.specs.Position.{position_of}
 use Rattle.plane_geometry.specs.SegmentView.{stretch_of, lesser_end, greater_end}
 use Rattle.plane_geometry.specs.SideLaws.{compare_is}
 use Rattle.plane_geometry.specs.StretchLaws.{ends_order}
+use Rattle.plane_geometry.specs.Stretch.{Stretch}
+use Rattle.crease_model.specs.declared.Piece.{Piece}
+use Rattle.line_split.specs.Cuts.{with_piece_cuts, points_or, cuts_from}
 use Rattle.line_split.specs.MemberLaws.{Member}
 use Rattle.line_split.specs.Points.{by_order, with_point, with_points, in_order, equal_points, is_rising}
 use Rattle.line_split.specs.PointLaws.{with_point_new, with_point_old, with_point_either, with_point_rising}
@@ -65,3 +70,22 @@ ends_in_order s =
     let to = greater_end s in
     ap (λ (o : Ordering). by_order o (to ∷ from ∷ []) (from ∷ []) (from ∷ to ∷ []))
     (compare_is (position_of to) (position_of from) ∙ ap ordering_of (ends_order (stretch_of s) s.stretch))
+
+-- ---- one piece more
+
+more_with : (test : Piece → Bool) (gathered : List Piece) (p : Piece) (rest : List Piece) → gathered ++ filter test (p ∷ []) ++ filter test rest ≡ gathered ++ filter test (p ∷ rest)
+more_with test gathered p rest =
+    append_assoc gathered (filter test (p ∷ [])) (filter test rest)
+    ∙ ap (λ (l : List Piece). gathered ++ l) (elim (test p) as (λ b. cond b (p ∷ []) [] ++ filter test rest ≡ cond b (p ∷ filter test rest) (filter test rest)) [ true ↦ refl | false ↦ refl ])
+
+pub more_pieces : (test : Piece → Bool) (pieces left : List Piece) (p : Piece) (rest before after : List Piece) → left ≡ p ∷ rest → after ≡ before ++ filter test (p ∷ [])
+    → before ++ filter test left ≡ filter test pieces → after ++ filter test rest ≡ filter test pieces
+more_pieces test pieces left p rest before after split more e =
+    ap (λ (l : List Piece). l ++ filter test rest) more ∙ more_with test before p rest
+    ∙ ap (λ (l : List Piece). before ++ filter test l) (sym split) ∙ e
+
+pub more_cuts : (s : Stretch) (n : ℕ) (left : List Piece) (p : Piece) (rest : List Piece) (before after : List Point) (all : Result (List Point) ℕ) → left ≡ p ∷ rest → with_piece_cuts s before p.segment ≡ Some after
+    → cuts_from s n left before ≡ all → cuts_from s (n + 1) rest after ≡ all
+more_cuts s n left p rest before after all split more e =
+    sym (ap (λ (o : Option (List Point)). points_or n o (cuts_from s (n + 1) rest)) more)
+    ∙ ap (λ (l : List Piece). cuts_from s n l before) (sym split) ∙ e

@@ -1,3 +1,2 @@
 pub mod SplitLaws
-pub mod Untouched
 mod Gathered

@@ -1,5 +1,5 @@
 -- The laws of cutting, each proved.
-use Rattle.std.proofs.Common.{◌≡◌, ◌↔◌, ◌⊎◌, inl, inr, ℕ, List, refl, sym, ap, subst, ◌∙◌}
+use Rattle.std.proofs.Common.{◌≡◌, ◌↔◌, ℕ, List, refl, sym, ap, subst, ◌∙◌}
 use Rattle.std.specs.Prelude.{◌≢◌, Ok, Err, Contains, IsErrOf, IsTrue, MatchResult}
 use Rattle.std.specs.declared.result.Result.{Result}
 use Rattle.plane_geometry.specs.declared.Point.{Point}
@@ -9,10 +9,8 @@ use Rattle.crease_model.specs.declared.Piece.{Piece}
 use Rattle.line_split.specs.declared.cutting.SplitFault.{SplitFault}
 use Rattle.line_split.specs.declared.cutting.SplitFault.TheVariants.{OutOfRange, Memory}
 use Rattle.line_split.specs.Answer.{IsCutFault}
-use Rattle.line_split.specs.Points.{with_point, HasPointAt}
+use Rattle.line_split.specs.Points.{HasPointAt}
 use Rattle.line_split.specs.Cuts.{is_cut, cuts_of, IsFirstOutOfRange}
-use Rattle.line_split.specs.MemberLaws.{Member, member, contained}
-use Rattle.line_split.specs.PointLaws.{with_point_new, with_point_old, with_point_either}
 use Rattle.plane_geometry.specs.Position.{Position, position_of}
 use Rattle.plane_geometry.specs.Direction.{is_zero}
 use Rattle.plane_geometry.specs.StretchLaws.{same_is, zero_is, turned_zero}
@@ -67,16 +65,3 @@ pub answer_where : {T : Type 0} (s : Segment) (pieces : List Piece) (points_of :
     → (number : ℕ) → IsErrOf answer (OutOfRange number) ↔ ((answer ≢ Err Memory) × IsFirstOutOfRange (stretch_of s) pieces number)
 answer_where s pieces points_of (Ok v) cut number = none_out_of_range v s pieces (points_of v) cut number
 answer_where s pieces points_of (Err fault) e number = first_out_of_range s pieces fault e number
-
--- ---- one point more
-
-pub point_added : (points : List Point) (v w : Point) → Contains (with_point points v) w ↔ (Contains points w ⊎ (w ≡ v))
-point_added points v w = (λ c. old_or_new (with_point_either points v w (member _ w c)), there)
-  where
-    old_or_new : (v ≡ w) ⊎ Member points w → Contains points w ⊎ (w ≡ v)
-    old_or_new (inl e) = inr (sym e)
-    old_or_new (inr m) = inl (contained points w m)
-
-    there : Contains points w ⊎ (w ≡ v) → Contains (with_point points v) w
-    there (inl c) = contained _ w (with_point_old points v w (member points w c))
-    there (inr e) = subst (Contains (with_point points v)) (sym e) (contained _ v (with_point_new points v))

@@ -1,6 +1,8 @@
--- Where a segment is cut by pieces: at its ends, at their ends on it, and where it meets a piece of another direction.
-use Rattle.std.specs.Prelude.{◌≡◌, ℕ, ◌+◌, Bool, ◌&&◌, ◌||◌, not, List, [], ◌∷◌, ◌++◌, length, Option, None, Some, Ok, Err, Contains, IsTrue, if◌then◌else◌}
-use Rattle.std.specs.List.{list_any}
+-- Where a segment is cut by pieces: at its ends, at their ends on it, and where it meets a piece of another
+-- direction.
+use Rattle.std.specs.Prelude.{◌≡◌, ℕ, ◌+◌, Bool, ◌&&◌, ◌||◌, not, List, [], ◌∷◌, ◌++◌, length, Option, None}
+use Rattle.std.specs.Prelude.{Some, Ok, Err, Contains, IsTrue, if◌then◌else◌}
+use Rattle.std.specs.List.{list_any, filter}
 use Rattle.std.specs.Bool.{IsFalse}
 use Rattle.std.specs.declared.result.Result.{Result}
 use Rattle.plane_geometry.specs.declared.Point.{Point}
@@ -20,9 +22,24 @@ is_meeting_point v s u = (is_on v s && is_on v u) && not (is_parallel s u)
 
 -- a point of s that is an end of it, or of a piece, or a point of a piece of another direction
 abbrev pub is_cut : List Piece → Stretch → Position → Bool
-is_cut pieces s v = is_on v s && (is_end v s || list_any (λ p. is_end v (stretch_of p.segment) || is_meeting_point v s (stretch_of p.segment)) pieces)
+is_cut pieces s v =
+    is_on v s
+    && (is_end v s
+    || list_any (λ p. is_end v (stretch_of p.segment) || is_meeting_point v s (stretch_of p.segment)) pieces)
 
--- ---- the same as a list
+-- ---- which pieces
+
+abbrev pub is_touched : Stretch → Piece → Bool
+is_touched s p = is_touching s (stretch_of p.segment)
+
+-- the pieces that s touches, and the others
+abbrev pub touched : Stretch → List Piece → List Piece
+touched s pieces = filter (is_touched s) pieces
+
+abbrev pub untouched : Stretch → List Piece → List Piece
+untouched s pieces = filter (λ p. not (is_touched s p)) pieces
+
+-- ---- the points as a list
 
 -- with the point if it is on the stretch
 abbrev pub with_point_on : Stretch → List Point → Point → List Point
@@ -51,13 +68,14 @@ abbrev pub points_or : ℕ → Option (List Point) → (List Point → Result (L
 points_or n None rest = Err n
 points_or n (Some points) rest = rest points
 
--- the points found with those at each of these pieces, the first of which has the number n; or the number of the first
--- piece whose common point with s is not of two Surds
+-- the points found with those at each of these pieces, the first of which has the number n; or the number of
+-- the first piece whose common point with s is not of two Surds
 abbrev pub cuts_from : Stretch → ℕ → List Piece → List Point → Result (List Point) ℕ
 cuts_from s n [] points = Ok points
 cuts_from s n (p ∷ ps) points = points_or n (with_piece_cuts s points p.segment) (cuts_from s (n + 1) ps)
 
--- the points where s is cut, ascending; or the number of the first piece whose common point is not of two Surds, from 1
+-- the points where s is cut, ascending; or the number of the first piece whose common point is not of two
+-- Surds, from 1
 unfoldable pub cuts_of : Segment → List Piece → Result (List Point) ℕ
 cuts_of s pieces = cuts_from (stretch_of s) 1 pieces (lesser_end s ∷ greater_end s ∷ [])
 

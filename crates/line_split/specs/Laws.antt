@@ -14,9 +14,11 @@ abbrev pub CutsAreExact : Type 0
 CutsAreExact =
     (s : Segment) (pieces : List Piece) (points : List Point)
     → cuts_of s pieces ≡ Ok points
-    → IsTrue (is_rising points) × ((v : Position) → IsTrue (is_cut pieces (stretch_of s) v) ↔ HasPointAt points v)
+    → IsTrue (is_rising points)
+    × ((v : Position) → IsTrue (is_cut pieces (stretch_of s) v) ↔ HasPointAt points v)
 
--- there are none exactly where some common point is not of two Surds; the number is that of the first such piece
+-- there are none exactly where some common point is not of two Surds; the number is that of the first such
+-- piece
 abbrev pub FaultIsFirst : Type 0
 FaultIsFirst =
     (s : Segment) (pieces : List Piece) (number : ℕ)

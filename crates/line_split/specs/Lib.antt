@@ -10,3 +10,4 @@ pub mod PartLaws
 pub mod FaultLaws
 pub mod LengthLaws
 pub mod SortedLaws
+pub mod TouchLaws

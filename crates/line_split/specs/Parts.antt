@@ -26,17 +26,24 @@ pieces_between kind start (p ∷ ps) end = piece_on kind (segment_of start p) ++
 
 -- the piece cut at those of the points that are strictly between its ends
 unfoldable pub parts_of : Piece → List Point → List Piece
-parts_of p points = pieces_between p.kind (lesser_end p.segment) (inner_points (stretch_of p.segment) points) (greater_end p.segment)
+parts_of p points =
+    pieces_between p.kind (lesser_end p.segment) (inner_points (stretch_of p.segment) points)
+    (greater_end p.segment)
 
 -- ---- the same by points
 
 -- an end of the piece, or one of the points strictly between its ends
 abbrev pub IsPartEnd : Piece → List Point → Point → Type 0
-IsPartEnd p points v = (v ≡ lesser_end p.segment) ⊎ (v ≡ greater_end p.segment) ⊎ (Contains points v × IsTrue (is_between (position_of v) (stretch_of p.segment)))
+IsPartEnd p points v =
+    (v ≡ lesser_end p.segment)
+    ⊎ (v ≡ greater_end p.segment)
+    ⊎ (Contains points v × IsTrue (is_between (position_of v) (stretch_of p.segment)))
 
 -- a piece of its kind from one of these to the next
 pub record IsPart (p : Piece) (points : List Point) (q : Piece) : Type 0 where
   pub kind : q.kind ≡ p.kind
   pub from : IsPartEnd p points (lesser_end q.segment)
   pub to : IsPartEnd p points (greater_end q.segment)
-  pub none_between : (v : Point) → Contains points v → IsFalse (is_between (position_of v) (stretch_of q.segment))
+  pub none_between : (v : Point)
+      → Contains points v
+      → IsFalse (is_between (position_of v) (stretch_of q.segment))

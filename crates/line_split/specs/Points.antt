@@ -22,7 +22,8 @@ by_order Greater less equal greater = greater
 -- points in ascending order with one more, unless it is there
 abbrev pub with_point : List Point → Point → List Point
 with_point [] v = v ∷ []
-with_point (p ∷ ps) v = by_order (compare_positions (position_of v) (position_of p)) (v ∷ p ∷ ps) (p ∷ ps) (p ∷ with_point ps v)
+with_point (p ∷ ps) v =
+    by_order (compare_positions (position_of v) (position_of p)) (v ∷ p ∷ ps) (p ∷ ps) (p ∷ with_point ps v)
 
 -- with each of these, one after another
 abbrev pub with_points : List Point → List Point → List Point

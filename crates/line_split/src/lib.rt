@@ -7,6 +7,6 @@ mod parting;
 #[cfg(test)]
 mod tests;
 
-pub use cutting::{SplitFault, cut_points, insert_point};
+pub use cutting::{Cutting, SplitFault, cut_points};
 pub use laws::{cuts_are_exact, fault_is_first, parts_are_exact};
 pub use parting::cut_at;

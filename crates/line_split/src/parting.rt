@@ -18,7 +18,8 @@ fn push_piece(
     from: &Point,
     to: &Point,
 ) -> Result<(), AllocError>
-    ensures ok { OnOk result (parts.new.items ≡ parts.old.items ++ piece_on kind (segment_of from.now to.now)) }
+    ensures ok { OnOk result (parts.new.items
+        ≡ parts.old.items ++ piece_on kind (segment_of from.now to.now)) }
     ensures err { OnErr result (parts.new.items ≡ parts.old.items) }
 {
     if let Ok(segment) = Segment::new(from, to) {
@@ -30,7 +31,8 @@ fn push_piece(
 /// The piece cut at those of the points that are strictly between its ends. The points ascend.
 #[tactic(auto, unfolding(crate::specs::Parts::parts_of))]
 pub fn cut_at(alloc: Global, piece: &Piece, points: &[Point]) -> Result<Vec<Piece>, AllocError>
-    ensures parts { IfOk result (λ parts. IsTrue (is_rising points.now) → (q : Piece) → Contains parts.items q ↔ IsPart piece.now points.now q) }
+    ensures parts { IfOk result (λ parts. IsTrue (is_rising points.now)
+        → (q : Piece) → Contains parts.items q ↔ IsPart piece.now points.now q) }
     ensures exact { IfOk result (λ parts. parts.items ≡ parts_of piece.now points.now) }
 {
     let mut parts = Vec::new(alloc);

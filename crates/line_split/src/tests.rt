@@ -42,7 +42,7 @@ fn cuts_a_segment(rt: HostRuntime) -> Result<(), Fail> {
         valley_between(-2, 0, 3, 0)?,
         valley_between(5, -1, 5, 1)?,
     ];
-    let points = cut_points(rt.alloc(), &flat.segment, &pieces)?;
+    let cutting = cut_points(rt.alloc(), &flat.segment, &pieces)?;
     let wanted = [
         whole(0, 0)?,
         whole(1, 0)?,
@@ -50,7 +50,9 @@ fn cuts_a_segment(rt: HostRuntime) -> Result<(), Fail> {
         whole(3, 0)?,
         whole(4, 0)?,
     ];
-    assert_eq!(rt; points.as_slice(), wanted.as_slice());
+    assert_eq!(rt; cutting.points.as_slice(), wanted.as_slice());
+    assert_eq!(rt; cutting.touched.as_slice(), &pieces[..3]);
+    assert_eq!(rt; cutting.others.as_slice(), &pieces[3..]);
     Ok(())
 }
 
@@ -59,9 +61,9 @@ fn cuts_at_a_point_of_roots(rt: HostRuntime) -> Result<(), Fail> {
     let end = point((1, 0, 0), (-1, 1, 0))?;
     let slight = valley(&whole(0, 0)?, &end)?;
     let steep = valley(&whole(1, 0)?, &point((2, -1, 0), (1, 0, 0))?)?;
-    let points = cut_points(rt.alloc(), &slight.segment, &[steep])?;
+    let cutting = cut_points(rt.alloc(), &slight.segment, &[steep])?;
     let wanted = [whole(0, 0)?, point((2, 1, 2), (0, 1, 2))?, end];
-    assert_eq!(rt; points.as_slice(), wanted.as_slice());
+    assert_eq!(rt; cutting.points.as_slice(), wanted.as_slice());
     Ok(())
 }
 
