@@ -97,8 +97,10 @@ module _ (p : PatternView) (sheet : is_sheet p.corners ≡ true) (rules : IsPatt
   leaders_rise i (next ∷ rest) =
       cond_both (is_leader nexts i) (i ∷ leaders_from nexts (i + 1) rest)
       (leaders_from nexts (i + 1) rest) Rises
-      (λ e. ((λ k m. let l = leader_is nexts (i + 1) rest k m in omega (arith, l.from)),
-        leaders_rise (i + 1) rest))
+      (λ e. (
+        (λ k m. let l = leader_is nexts (i + 1) rest k m in omega (arith, l.from)),
+        leaders_rise (i + 1) rest,
+      ))
       (λ e. leaders_rise (i + 1) rest)
 
   -- the first side of the face that a place leads is the half-edge in this place

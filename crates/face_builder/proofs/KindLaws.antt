@@ -87,10 +87,10 @@ between_end side pieces z m =
       r.0,
       r.1,
       elim (member_either (point_between side (lesser_end r.0.segment))
-      (point_between side (greater_end r.0.segment)) z r.2) [
-        | inl l ↦ inl (point_at side (lesser_end r.0.segment) z l)
-        | inr g ↦ inr (point_at side (greater_end r.0.segment) z g)
-      ],
+          (point_between side (greater_end r.0.segment)) z r.2) [
+            | inl l ↦ inl (point_at side (lesser_end r.0.segment) z l)
+            | inr g ↦ inr (point_at side (greater_end r.0.segment) z g)
+          ],
     )
 
 in_reverse : (xs : List Point) (z : Point) → Member xs z → Member (reverse xs) z
