@@ -1,6 +1,6 @@
 -- The shape by the folding, or why there is none.
 use Rattle.std.specs.Prelude.{Result, Ok, Err, MatchResult, IfOk}
-use Rattle.std.proofs.Common.{◌≡◌, ℕ, ◌<◌, Bool, cond, List, [], ◌∷◌, sym, subst}
+use Rattle.std.proofs.Common.{◌≡◌, ◌⊎◌, inl, inr, ℕ, suc, ◌<◌, Bool, cond, List, [], ◌∷◌, length, refl, sym, ap, subst}
 use Rattle.std.specs.Bool.{IsTrue}
 use Rattle.std.specs.List.{All, AllZip}
 use Rattle.std.proofs.lemmas.List.Elements.{All-head, All-tail}
@@ -20,7 +20,7 @@ use Rattle.wireframe_fold.specs.declared.faults.WireFault.{WireFault}
 use Rattle.wireframe_fold.specs.declared.faults.WireFault.TheVariants.{DoesNotClose, FoldRange, TooManyLines, Memory}
 use Rattle.wireframe_fold.specs.Folding.{motions_of, IsClosed, IsFolding, AreAlongWalk}
 use Rattle.wireframe_fold.specs.Shape.{IsFoldedFace, AreFoldedFaces}
-use Rattle.wireframe_fold.specs.Fold.{IsShapeBy, IsShapeFault, IsShape, IsWireFault, IsSideKeeping, KeepsSides}
+use Rattle.wireframe_fold.specs.Fold.{IsShapeBy, HasTooManyLines, IsShapeFault, IsShape, IsWireFault, IsSideKeeping, KeepsSides}
 use Rattle.wireframe_fold.proofs.ConvexFaces.{IsFew, motions_linear, folded_convex}
 
 folding_by : (m : FaceMapView) (ms : List Isometry) → AreAlongWalk m (motions_of ms)
@@ -49,6 +49,11 @@ pub shape_answer : (m : FaceMapView) (ts : List Motion) (r : Result FoldedView W
     → MatchResult r (IsShapeBy m ts) (IsShapeFault m ts) → MatchResult r (IsShape m) (IsWireFault m)
 shape_answer m ts (Ok f) folding h = (ts, folding, h)
 shape_answer m ts (Err fault) folding h = shape_fault m ts fault folding h
+
+pub too_many_answer : (m : FaceMapView) (ts : List Motion) (fault : WireFault) (n : ℕ)
+    → (fault ≡ TooManyLines n) ⊎ (fault ≡ Memory) → HasTooManyLines m ts n → IsShapeFault m ts fault
+too_many_answer m ts fault n (inl same) h = subst (IsShapeFault m ts) (sym same) h
+too_many_answer m ts fault n (inr same) h = subst (IsShapeFault m ts) (sym same) tt
 
 -- ---- sides
 
@@ -82,3 +87,21 @@ pub convex_shape : (m : FaceMapView) (r : Result FoldedView WireFault) → AreFa
     → MatchResult r (IsShape m) (IsWireFault m) → IfOk r (λ f. IsTrue (are_convex_faces f.faces))
 convex_shape m (Ok f) rules h = folded_convex h.0 m.faces f.faces h.2.faces h.1.linear rules.convex
 convex_shape m (Err fault) rules h = tt
+
+-- ---- how many faces
+
+folded_each : (ts : List Motion) (cs : List (List Point)) (fs : List FoldedFace) → AreFoldedFaces ts cs fs
+    → length fs ≡ length cs
+folded_each [] [] [] h = refl
+folded_each [] [] (g ∷ fs) h = absurd h
+folded_each [] (c ∷ cs) [] h = absurd h
+folded_each [] (c ∷ cs) (g ∷ fs) h = absurd h
+folded_each (u ∷ ts) [] [] h = absurd h
+folded_each (u ∷ ts) [] (g ∷ fs) h = absurd h
+folded_each (u ∷ ts) (c ∷ cs) [] h = absurd h
+folded_each (u ∷ ts) (c ∷ cs) (g ∷ fs) h = ap suc (folded_each ts cs fs h.1)
+
+pub all_folded : (m : FaceMapView) (r : Result FoldedView WireFault) → MatchResult r (IsShape m) (IsWireFault m)
+    → IfOk r (λ f. length f.faces ≡ length m.faces)
+all_folded m (Ok f) h = folded_each h.0 m.faces f.faces h.2.faces
+all_folded m (Err fault) h = tt

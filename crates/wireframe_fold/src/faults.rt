@@ -14,7 +14,7 @@ pub enum WireFault {
     FoldRange { face: u32 },
     /// There are more than 200 different lines through folded sides.
     #[error("there are {lines} lines through folded sides")]
-    TooManyLines { lines: usize },
+    TooManyLines { lines: u32 },
     /// Memory ran out.
     #[error("out of memory")]
     Memory,

@@ -2,7 +2,7 @@
 //! that it shares.
 #![tactic(auto)]
 
-ghost use Rattle.std.specs.Prelude.{◌↔◌, ◌^◌, ℕ, MatchResult, IfOk, IsErrOf, IsTrue};
+ghost use Rattle.std.specs.Prelude.{◌≡◌, ◌↔◌, ◌⊎◌, ◌^◌, ℕ, length, MatchResult, IfOk, IsErrOf, IsTrue};
 ghost use Rattle.isometry_map.specs.Folded.{are_convex_faces};
 ghost use Rattle.wireframe_fold.specs.Folding.{motions_of, AreWithin, IsFolding};
 ghost use Rattle.wireframe_fold.specs.Fold.{IsShapeBy, IsShapeFault, IsShape, IsWireFault, HasMemory, HasNoFolding, IsOpenAt, IsOutAt, AreTooManyLines, KeepsSides};
@@ -27,6 +27,16 @@ use std::alloc::Global;
 /// The most lines through folded sides.
 pub const MOST_LINES: usize = 200;
 
+// So many lines, unless no memory holds as many.
+fn too_many_lines(lines: usize) -> WireFault
+    ensures { (result ≡ WireFault.TooManyLines lines) ⊎ (result ≡ WireFault.Memory) }
+{
+    match u32::try_from(lines) {
+        Ok(lines) => WireFault::TooManyLines { lines },
+        Err(_) => WireFault::Memory,
+    }
+}
+
 // The shape by the isometries of the folding.
 fn shape_by(alloc: Global, faces: &FaceMap, motions: &[Isometry]) -> Result<Folded, WireFault>
     requires folding { IsFolding faces.now (motions_of motions.now) }
@@ -38,7 +48,7 @@ fn shape_by(alloc: Global, faces: &FaceMap, motions: &[Isometry]) -> Result<Fold
     let folded = folded_faces(alloc, faces, motions)?;
     let lines = count_lines(alloc, folded.as_slice())?;
     if lines > MOST_LINES {
-        return Err(WireFault::TooManyLines { lines });
+        return Err(too_many_lines(lines));
     }
     let creases = shared_images(alloc, motions, faces.shared())?;
     Ok(Folded::new(folded, creases))
@@ -67,6 +77,7 @@ pub fn fold(alloc: Global, faces: &FaceMap) -> Result<Folded, WireFault>
         ↔ (HasMemory result × IsOutAt faces.now face) }
     ensures too_many_lines { (lines : ℕ) → IsErrOf result (TooManyLines lines)
         ↔ (HasMemory result × AreTooManyLines faces.now lines) }
+    ensures count { IfOk result (λ f. length f.faces ≡ length faces.now.faces) }
     ensures convex { IfOk result (λ f. IsTrue (are_convex_faces f.faces)) }
     ensures sides { IfOk result (KeepsSides faces.now) }
     ensures exact { MatchResult result (IsShape faces.now) (IsWireFault faces.now) }

@@ -1,6 +1,6 @@
 use Rattle.wireframe_fold.specs.declared.faults.WireFault.TheVariants.{DoesNotClose, FoldRange, TooManyLines}
 use Rattle.wireframe_fold.proofs.Causes.{refused_exactly, unfolded_exactly, open_not_memory, range_not_memory, lines_not_memory}
-use Rattle.wireframe_fold.proofs.FoldedShapes.{sides_kept, convex_shape}
+use Rattle.wireframe_fold.proofs.FoldedShapes.{sides_kept, convex_shape, all_folded}
 use Rattle.wireframe_fold.proofs.fold.Goals as goal
 
 pub returns-clause-does_not_close : goal.returns-clause-does_not_close
@@ -28,3 +28,6 @@ returns-clause-convex c =
 
 pub returns-clause-sides : goal.returns-clause-sides
 returns-clause-sides c = sides_kept c.args.faces.now c.fold_of.result c.fold_of.ensures
+
+pub returns-clause-count : goal.returns-clause-count
+returns-clause-count c = all_folded c.args.faces.now c.fold_of.result c.fold_of.ensures
