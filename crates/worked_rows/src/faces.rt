@@ -248,7 +248,7 @@ fn with_line(alloc: Global, pattern: Pattern, line: &[u8]) -> Result<Pattern, Fa
     }
 }
 
-fn pattern_of(alloc: Global, sheet: Sheet, text: &[u8]) -> Result<Pattern, Fail> {
+pub(crate) fn pattern_of(alloc: Global, sheet: Sheet, text: &[u8]) -> Result<Pattern, Fail> {
     let mut pattern = Pattern::empty(sheet);
     let mut rest = text;
     for _ in 0..text.len() {
@@ -260,7 +260,7 @@ fn pattern_of(alloc: Global, sheet: Sheet, text: &[u8]) -> Result<Pattern, Fail>
     Ok(pattern)
 }
 
-fn put_point(out: &mut Vec<u8>, p: &Point) -> Result<(), AllocError> {
+pub(crate) fn put_point(out: &mut Vec<u8>, p: &Point) -> Result<(), AllocError> {
     out.push(b' ')?;
     write_number(out, &p.x)?;
     out.push(b' ')?;
@@ -334,7 +334,7 @@ fn faces_are_those_of_the_tables(rt: HostRuntime) -> Result<(), Fail> {
 }
 
 /// The square with this many creases from side to side, a unit apart.
-fn strips(alloc: Global, count: i32) -> Result<Pattern, Fail> {
+pub(crate) fn strips(alloc: Global, count: i32) -> Result<Pattern, Fail> {
     let mut pattern = Pattern::empty(Sheet::square(alloc)?);
     for k in 0..count {
         let x = Surd::whole(k.saturating_sub(199));

@@ -15,6 +15,8 @@ mod faces;
 #[cfg(test)]
 mod faults;
 #[cfg(test)]
+mod folded_shapes;
+#[cfg(test)]
 mod limits;
 #[cfg(test)]
 mod lines;
