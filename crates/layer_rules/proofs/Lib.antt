@@ -16,3 +16,4 @@ mod TortillaRules
 mod TacoRules
 mod Beside
 mod OrderRules
+mod Layerings

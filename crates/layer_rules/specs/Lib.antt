@@ -15,3 +15,4 @@ pub mod TacoTortilla
 pub mod TacoTaco
 pub mod TacoTurns
 pub mod LayerOrder
+pub mod Layering

@@ -2,8 +2,9 @@
 
 use crate::places::place;
 use crate::shapes::{Row, shape, stack};
-use crate::{FacePair, PairsFault, crease_rules, pairs, transitivity_rules};
+use crate::{FacePair, PairsFault, crease_rules, instance, pairs, transitivity_rules};
 use crease_model::Kind::{Mountain, Valley};
+use crease_model::{Pattern, Sheet};
 use sign_rules::Rule;
 use sign_rules::Sign::{self, Over, Under};
 use std::test::Fail;
@@ -812,3 +813,15 @@ pub(crate) const FAN_4: Row = Row {
         (12, 14, 13),
     ],
 };
+
+#[test]
+fn a_sheet_without_creases_has_one_face(rt: HostRuntime) -> Result<(), Fail> {
+    let alloc = rt.alloc();
+    let layers = instance(&rt, alloc, &Pattern::empty(Sheet::square(alloc)?))?;
+    assert_eq!(rt; layers.faces(), 1);
+    assert!(rt; layers.pairs().is_empty());
+    let rules = layers.rules()?;
+    assert_eq!(rt; rules.pairs(), 0);
+    assert_eq!(rt; rules.count(), 0);
+    Ok(())
+}

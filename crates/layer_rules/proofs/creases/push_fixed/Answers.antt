@@ -1,4 +1,4 @@
-use Rattle.std.proofs.Common.{◌≡◌, ◌∙◌, ◌++◌, List, ap, ap₂}
+use Rattle.std.proofs.Common.{◌∙◌, ◌++◌, List, ap, ap₂}
 use Rattle.std.proofs.lemmas.List.{append_assoc}
 use Rattle.sign_rules.specs.declared.rule.Rule.{Rule}
 use Rattle.sign_rules.specs.declared.sign.Sign.TheVariants.{Over, Under}

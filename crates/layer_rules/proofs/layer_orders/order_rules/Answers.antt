@@ -1,4 +1,4 @@
-use Rattle.std.proofs.Common.{◌≡◌, ◌∙◌, List, ◌++◌, length, ap, ap₂}
+use Rattle.std.proofs.Common.{◌∙◌, List, ◌++◌, length, ap, ap₂}
 use Rattle.sign_rules.specs.declared.rule.Rule.{Rule}
 use Rattle.layer_rules.proofs.OrderRules.{consistent_is, all_on}
 use Rattle.layer_rules.proofs.layer_orders.order_rules.Goals as goal

@@ -1,4 +1,4 @@
-use Rattle.std.proofs.Common.{◌≡◌, ◌∙◌, not, ap, ap₂}
+use Rattle.std.proofs.Common.{◌∙◌, not, ap, ap₂}
 use Rattle.std.specs.Prelude.{nat_lt}
 use Rattle.std.proofs.Math.Bool.{beq}
 use Rattle.sign_rules.specs.Rule.{is_same}

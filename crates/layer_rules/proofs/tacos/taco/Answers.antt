@@ -1,4 +1,4 @@
-use Rattle.std.proofs.Common.{◌≡◌, ◌∙◌, Bool, sym, subst, length, arith}
+use Rattle.std.proofs.Common.{◌∙◌, Bool, sym, subst, length, arith}
 use Rattle.std.proofs.lemmas.Bool.{false≢true}
 use Rattle.sign_rules.specs.declared.rule.Rule.TheVariants.{Even}
 use Rattle.layer_rules.specs.RuleMeaning.{IsRuleFor}

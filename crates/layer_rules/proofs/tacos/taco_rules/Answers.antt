@@ -1,9 +1,8 @@
 use Rattle.std.proofs.Common.{◌≡◌, ◌∙◌, List, [], Some, length, sym, ap, subst, arith}
-use Rattle.std.specs.List.{Contains, slice_get}
+use Rattle.std.specs.List.{slice_get}
 use Rattle.open_region.specs.declared.Region.{Region}
 use Rattle.isometry_map.specs.declared.folded.FoldedFace.{FoldedFace}
 use Rattle.isometry_map.specs.declared.folded.CreaseImage.{CreaseImage}
-use Rattle.sign_rules.specs.declared.sign.Sign.{Sign}
 use Rattle.sign_rules.specs.declared.rule.Rule.{Rule}
 use Rattle.layer_rules.specs.Insides.{AreInsides}
 use Rattle.layer_rules.specs.RuleMeaning.{MakesRules, ForSomeBelow}
