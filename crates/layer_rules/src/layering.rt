@@ -178,7 +178,7 @@ fn rules_on(alloc: Global, pairs: usize, rules: Vec<Rule>) -> Result<Arc<Rules>,
     requires rules { IsTrue (are_rules_on pairs rules.items) }
     ensures { IfOk result (λ r. arc_value r ≡ record { pairs = pairs; rules = rules.items }) }
 {
-    // so many rules have no room in any memory
+    // so many rules, 48 GiB of them, count as want of memory
     if rules.len() >= 1 << 31 {
         return Err(AllocError);
     }

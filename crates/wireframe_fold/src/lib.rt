@@ -27,7 +27,7 @@ use std::alloc::Global;
 /// The most lines through folded sides.
 pub const MOST_LINES: usize = 200;
 
-// So many lines, unless no memory holds as many.
+// So many lines; a number of more than 32 bits counts as want of memory.
 fn too_many_lines(lines: usize) -> WireFault
     ensures { (result ≡ WireFault.TooManyLines lines) ⊎ (result ≡ WireFault.Memory) }
 {
