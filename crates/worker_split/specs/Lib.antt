@@ -2,3 +2,4 @@ pub mod Pieces
 pub mod Tasks
 pub mod Job
 pub mod Invariant
+pub mod Waiting
