@@ -3,3 +3,4 @@ pub mod Tasks
 pub mod Job
 pub mod Invariant
 pub mod Waiting
+pub mod Settled
