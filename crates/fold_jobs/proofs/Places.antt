@@ -121,6 +121,16 @@ numbered_at s n j numbered found =
     let own = ap (λ (k : FoldingJob). k.state.job) (here.is j) in
     omega (arith, here.some, own, numbered (n - 1) j here.inside)
 
+-- a task of a job names it
+pub job_in : {E : Type 0} (s : JobsView) (n : ℕ) (j : FoldingJob) (piece : ℕ) (result : Result (Option Task) E)
+    → job_at s n ≡ Some j → AreNumbered s.jobs
+    → IfOk result (λ task. option_map task_of task ≡ task_at j.state piece)
+    → IfOk result (λ task. IfSome task (λ t. t.job ≡ n))
+job_in s n j piece (Err e) found numbered task = task
+job_in s n j piece (Ok None) found numbered task = tt
+job_in s n j piece (Ok (Some t)) found numbered task =
+    task_job j.state piece (task_of t) task ∙ numbered_at s n j numbered found
+
 -- an outcome that is right for a task of a job is right among all jobs
 pub right_in : {E : Type 0} (s : JobsView) (n : ℕ) (j : FoldingJob) (piece : ℕ)
     (result : Result (Option Task) E) → job_at s n ≡ Some j → AreNumbered s.jobs
