@@ -9,4 +9,5 @@ number_between least most n = if nat_le least n && nat_le n most then Some n els
 -- the whole number of one to ten digits alone, leading zeros among them, where it is within the limits
 abbrev pub whole_read : ℕ → ℕ → List ℕ → Option ℕ
 whole_read least most word =
-    if is_digits word && nat_le (length word) 10 then number_between least most (digits_value 0 word) else None
+    if is_digits word && nat_le (length word) 10 then number_between least most (digits_value 0 word)
+    else None
