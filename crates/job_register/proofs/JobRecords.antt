@@ -210,104 +210,134 @@ later_at n b c rest more e h = subst (λ budget. Later n budget rest more) e h
 
 told_ask : (s : JobsView) (job : ℕ) (o : Result ⊤ JobRefusal) → o ≡ ask_answer s job
     → Told s (after_ask s job o) (Made (Another job) (ask_reply job o))
-told_ask s job (Err refused) e = (Ask job (Err refused) ∷ [], record {
-  legal = (e, tt);
-  after = refl;
-  shown = λ n. refl;
-  closes = λ n asked rest more h. h asked;
-})
-told_ask s job (Ok done) e = (Ask job (Ok done) ∷ [], record {
-  legal = (e, tt);
-  after = refl;
-  shown = λ n. refl;
-  closes = λ n asked rest more h.
-      let k : Later n s.budget rest more =
-          later_at n _ s.budget rest more (changed_budget s job _ (job_at s job)) h in
-      elim (cases_Bool (job == n)) [
-        | inl yes ↦ rw yes (k s.budget)
-        | inr no ↦ rw no (k asked)
-      ];
-})
+told_ask s job (Err refused) e = (
+  Ask job (Err refused) ∷ [],
+  record {
+    legal = (e, tt);
+    after = refl;
+    shown = λ n. refl;
+    closes = λ n asked rest more h. h asked;
+  },
+)
+told_ask s job (Ok done) e = (
+  Ask job (Ok done) ∷ [],
+  record {
+    legal = (e, tt);
+    after = refl;
+    shown = λ n. refl;
+    closes = λ n asked rest more h.
+        let k : Later n s.budget rest more =
+        later_at n _ s.budget rest more (changed_budget s job _ (job_at s job)) h in
+        elim (cases_Bool (job == n)) [
+          | inl same ↦ rw same (k s.budget)
+          | inr other ↦ rw other (k asked)
+        ];
+  },
+)
 
 told_cancel : (s : JobsView) (job : ℕ) (o : Result ⊤ JobRefusal) → o ≡ cancel_answer s job
     → Told s (after_cancel s job o) (Made (Cancel job) (cancel_reply job o))
-told_cancel s job (Err refused) e = (Cancelling job (Err refused) ∷ [], record {
-  legal = (e, tt);
-  after = refl;
-  shown = λ n. refl;
-  closes = λ n asked rest more h. h asked;
-})
-told_cancel s job (Ok done) e = (Cancelling job (Ok done) ∷ [], record {
-  legal = (e, tt);
-  after = refl;
-  shown = λ n. refl;
-  closes = λ n asked rest more h.
-      later_at n _ s.budget rest more (changed_budget s job _ (job_at s job)) h asked;
-})
+told_cancel s job (Err refused) e = (
+  Cancelling job (Err refused) ∷ [],
+  record {
+    legal = (e, tt);
+    after = refl;
+    shown = λ n. refl;
+    closes = λ n asked rest more h. h asked;
+  },
+)
+told_cancel s job (Ok done) e = (
+  Cancelling job (Ok done) ∷ [],
+  record {
+    legal = (e, tt);
+    after = refl;
+    shown = λ n. refl;
+    closes = λ n asked rest more h.
+        later_at n _ s.budget rest more (changed_budget s job _ (job_at s job)) h asked;
+  },
+)
 
 told_show : (s : JobsView) (c : Command) (job : ℕ) (o : Result FoldAnswer JobRefusal) → o ≡ answer_to s job
     → Told s (after_answer_to s job o) (Made c (answer_reply job o))
-told_show s c job (Err refused) e = (Answering job (Err refused) ∷ [], record {
-  legal = (e, tt);
-  after = refl;
-  shown = λ n. refl;
-  closes = λ n asked rest more h. h asked;
-})
-told_show s c job (Ok (NotReady version piece)) e = (Answering job (Ok (NotReady version piece)) ∷ [], record {
-  legal = (e, tt);
-  after = refl;
-  shown = λ n. refl;
-  closes = λ n asked rest more h.
-      elim (cases_Bool (job == n)) [
-        | inl yes ↦ rw yes (h asked)
-        | inr no ↦ rw no (h asked)
-      ];
-})
-told_show s c job (Ok (NoMore version)) e = (Answering job (Ok (NoMore version)) ∷ [], record {
-  legal = (e, tt);
-  after = refl;
-  shown = λ n. refl;
-  closes = λ n asked rest more h.
-      let k : Later n s.budget rest more =
-          later_at n _ s.budget rest more (changed_budget s job _ (job_at s job)) h in
-      elim (cases_Bool (job == n)) [
-        | inl yes ↦ rw yes (ap (λ cs. closing_end ∷ cs) (k asked))
-        | inr no ↦ rw no (k asked)
-      ];
-})
-told_show s c job (Ok (Paused version)) e = (Answering job (Ok (Paused version)) ∷ [], record {
-  legal = (e, tt);
-  after = refl;
-  shown = λ n. refl;
-  closes = λ n asked rest more h.
-      let k : Later n s.budget rest more =
-          later_at n _ s.budget rest more (changed_budget s job _ (job_at s job)) h in
-      elim (cases_Bool (job == n)) [
-        | inl yes ↦ rw yes (ap (λ cs. closing_pause asked ∷ cs) (k asked))
-        | inr no ↦ rw no (k asked)
-      ];
-})
-told_show s c job (Ok (Shown version number order)) e = (Answering job (Ok (Shown version number order)) ∷ [], record {
-  legal = (e, tt);
-  after = refl;
-  shown = λ n. refl;
-  closes = λ n asked rest more h.
-      let k : Later n s.budget rest more =
-          later_at n _ s.budget rest more (changed_budget s job _ (job_at s job)) h in
-      elim (cases_Bool (job == n)) [
-        | inl yes ↦ rw yes (ap (λ cs. closing_shown order.list ∷ cs) (k asked))
-        | inr no ↦ rw no (k asked)
-      ];
-})
+told_show s c job (Err refused) e = (
+  Answering job (Err refused) ∷ [],
+  record {
+    legal = (e, tt);
+    after = refl;
+    shown = λ n. refl;
+    closes = λ n asked rest more h. h asked;
+  },
+)
+told_show s c job (Ok (NotReady version piece)) e = (
+  Answering job (Ok (NotReady version piece)) ∷ [],
+  record {
+    legal = (e, tt);
+    after = refl;
+    shown = λ n. refl;
+    closes = λ n asked rest more h.
+        elim (cases_Bool (job == n)) [
+          | inl same ↦ rw same (h asked)
+          | inr other ↦ rw other (h asked)
+        ];
+  },
+)
+told_show s c job (Ok (NoMore version)) e = (
+  Answering job (Ok (NoMore version)) ∷ [],
+  record {
+    legal = (e, tt);
+    after = refl;
+    shown = λ n. refl;
+    closes = λ n asked rest more h.
+        let k : Later n s.budget rest more =
+        later_at n _ s.budget rest more (changed_budget s job _ (job_at s job)) h in
+        elim (cases_Bool (job == n)) [
+          | inl same ↦ rw same (ap (λ cs. closing_end ∷ cs) (k asked))
+          | inr other ↦ rw other (k asked)
+        ];
+  },
+)
+told_show s c job (Ok (Paused version)) e = (
+  Answering job (Ok (Paused version)) ∷ [],
+  record {
+    legal = (e, tt);
+    after = refl;
+    shown = λ n. refl;
+    closes = λ n asked rest more h.
+        let k : Later n s.budget rest more =
+        later_at n _ s.budget rest more (changed_budget s job _ (job_at s job)) h in
+        elim (cases_Bool (job == n)) [
+          | inl same ↦ rw same (ap (λ cs. closing_pause asked ∷ cs) (k asked))
+          | inr other ↦ rw other (k asked)
+        ];
+  },
+)
+told_show s c job (Ok (Shown version number order)) e = (
+  Answering job (Ok (Shown version number order)) ∷ [],
+  record {
+    legal = (e, tt);
+    after = refl;
+    shown = λ n. refl;
+    closes = λ n asked rest more h.
+        let k : Later n s.budget rest more =
+        later_at n _ s.budget rest more (changed_budget s job _ (job_at s job)) h in
+        elim (cases_Bool (job == n)) [
+          | inl same ↦ rw same (ap (λ cs. closing_shown order.list ∷ cs) (k asked))
+          | inr other ↦ rw other (k asked)
+        ];
+  },
+)
 
 told_budget : (s : JobsView) (budget : ℕ) → 1 ≤ budget → budget ≤ greatest_budget
     → Told s (record s { budget = budget }) (Made (Budget budget) (reply.Budget budget))
-told_budget s budget some few = (SetBudget budget ∷ [], record {
-  legal = ((some, few), tt);
-  after = refl;
-  shown = λ n. refl;
-  closes = λ n asked rest more h. h asked;
-})
+told_budget s budget some few = (
+  SetBudget budget ∷ [],
+  record {
+    legal = ((some, few), tt);
+    after = refl;
+    shown = λ n. refl;
+    closes = λ n asked rest more h. h asked;
+  },
+)
 
 -- a job that is opened; the event says with which rules
 pub tells_opened : (s : JobsView) (c : Command) (number version faces pairs : ℕ) (rules : RulesView)
@@ -324,9 +354,10 @@ tells_opened s c number version faces pairs rules e room = record {
 told_fold : (s t : State) (r : Reply) → IsFold s r t → Told s.jobs t.jobs (Made Fold r)
 told_fold s t (reply.Job number version faces pairs) h =
     subst (λ (v : JobsView). Told s.jobs v (Made Fold (reply.Job number version faces pairs)))
-    (sym (ap (λ (u : State). u.jobs) h.opens))
-    (Open number version h.layers.rules ∷ [],
-    tells_opened s.jobs Fold number version faces pairs h.layers.rules h.number_is h.room)
+    (sym (ap (λ (u : State). u.jobs) h.opens)) (
+      Open number version h.layers.rules ∷ [],
+      tells_opened s.jobs Fold number version faces pairs h.layers.rules h.number_is h.room,
+    )
 told_fold s t (reply.Refused refusal) h =
     subst (λ (v : JobsView). Told s.jobs v (Made Fold (reply.Refused refusal)))
     (sym (ap (λ (u : State). u.jobs) h.1)) (tells_quiet s.jobs Fold (reply.Refused refusal) refl)
@@ -345,18 +376,30 @@ told_fold s t (reply.Cancelled job) h = absurd h
 
 told_answer : (s t : State) (c : Command) (r : Reply) → IsTrue (meets_condition c) → IsAnswered s c r t
     → Told s.jobs t.jobs (Made c r)
-told_answer s t (Add kind from to) r m h = told_edit s t _ _ r (quiet_answer s.journal (Add kind from to)) h
-told_answer s t (Delete from to) r m h = told_edit s t _ _ r (quiet_answer s.journal (Delete from to)) h
-told_answer s t (Set kind from to) r m h = told_edit s t _ _ r (quiet_answer s.journal (Set kind from to)) h
-told_answer s t Merge r m h = told_edit s t _ _ r (quiet_answer s.journal Merge) h
-told_answer s t Clear r m h = told_edit s t _ _ r (quiet_answer s.journal Clear) h
-told_answer s t (Sheet corners) r m h = told_edit s t _ _ r (quiet_answer s.journal (Sheet corners)) h
-told_answer s t (Load lines end) r m h = told_edit s t _ _ r (quiet_answer s.journal (Load lines end)) h
-told_answer s t Undo r m h = told_edit s t _ _ r (quiet_answer s.journal Undo) h
-told_answer s t Redo r m h = told_edit s t _ _ r (quiet_answer s.journal Redo) h
-told_answer s t ListCommand r m h = told_edit s t _ _ r (quiet_answer s.journal ListCommand) h
-told_answer s t Check r m h = told_edit s t _ _ r (quiet_answer s.journal Check) h
-told_answer s t (Bad fault) r m h = told_edit s t _ _ r (quiet_answer s.journal (Bad fault)) h
+told_answer s t (Add kind from to) r m h =
+    told_edit s t (answer s.journal (Add kind from to)) (Add kind from to) r (quiet_answer s.journal (Add kind from to)) h
+told_answer s t (Delete from to) r m h =
+    told_edit s t (answer s.journal (Delete from to)) (Delete from to) r (quiet_answer s.journal (Delete from to)) h
+told_answer s t (Set kind from to) r m h =
+    told_edit s t (answer s.journal (Set kind from to)) (Set kind from to) r (quiet_answer s.journal (Set kind from to)) h
+told_answer s t Merge r m h =
+    told_edit s t (answer s.journal Merge) Merge r (quiet_answer s.journal Merge) h
+told_answer s t Clear r m h =
+    told_edit s t (answer s.journal Clear) Clear r (quiet_answer s.journal Clear) h
+told_answer s t (Sheet corners) r m h =
+    told_edit s t (answer s.journal (Sheet corners)) (Sheet corners) r (quiet_answer s.journal (Sheet corners)) h
+told_answer s t (Load lines end) r m h =
+    told_edit s t (answer s.journal (Load lines end)) (Load lines end) r (quiet_answer s.journal (Load lines end)) h
+told_answer s t Undo r m h =
+    told_edit s t (answer s.journal Undo) Undo r (quiet_answer s.journal Undo) h
+told_answer s t Redo r m h =
+    told_edit s t (answer s.journal Redo) Redo r (quiet_answer s.journal Redo) h
+told_answer s t ListCommand r m h =
+    told_edit s t (answer s.journal ListCommand) ListCommand r (quiet_answer s.journal ListCommand) h
+told_answer s t Check r m h =
+    told_edit s t (answer s.journal Check) Check r (quiet_answer s.journal Check) h
+told_answer s t (Bad fault) r m h =
+    told_edit s t (answer s.journal (Bad fault)) (Bad fault) r (quiet_answer s.journal (Bad fault)) h
 told_answer s t Fold r m h = told_fold s t r h
 told_answer s t (Another job) r m h =
     told_as s.jobs _ t.jobs (Another job) (ask_reply job (ask_answer s.jobs job)) r h.0
@@ -378,39 +421,45 @@ told_answer s t (Cancel job) r m h =
 
 told_post : (s : JobsView) (x : Outcome) → MatchesIn s x → IsRightPostIn s x
     → Told s (posted_in s x) (Posted x true)
-told_post s x matches right = (Post x true ∷ [], record {
-  legal = ((matches, right), tt);
-  after = refl;
-  shown = λ n. refl;
-  closes = λ n asked rest more h.
-      let k : Later n s.budget rest more =
-          later_at n _ s.budget rest more (changed_budget s x.job _ (job_at s x.job)) h in
-      elim (cases_Bool (x.job == n)) [
-        | inl yes ↦ rw yes (k asked)
-        | inr no ↦ rw no (k asked)
-      ];
-})
+told_post s x matches right = (
+  Post x true ∷ [],
+  record {
+    legal = ((matches, right), tt);
+    after = refl;
+    shown = λ n. refl;
+    closes = λ n asked rest more h.
+        let k : Later n s.budget rest more =
+        later_at n _ s.budget rest more (changed_budget s x.job _ (job_at s x.job)) h in
+        elim (cases_Bool (x.job == n)) [
+          | inl same ↦ rw same (k asked)
+          | inr other ↦ rw other (k asked)
+        ];
+  },
+)
 
 pub told_step : (s t : State) (e : Event) → IsStep s e t → Told s.jobs t.jobs e
-told_step s t (Made c r) h = told_answer s t c r h.0 h.1.1
+told_step s t (Made c r) h = told_answer s t c r h.0 h.2
 told_step s t (Posted x true) h =
-    subst (λ (v : JobsView). Told s.jobs v (Posted x true)) (sym (ap (λ (u : State). u.jobs) h.1.1))
-    (told_post s.jobs x h.0 h.1.0)
+    subst (λ (v : JobsView). Told s.jobs v (Posted x true)) (sym (ap (λ (u : State). u.jobs) h.2))
+    (told_post s.jobs x h.0 h.1)
 told_step s t (Posted x false) h =
-    subst (λ (v : JobsView). Told s.jobs v (Posted x false)) (sym (ap (λ (u : State). u.jobs) h.1))
-    (Post x false ∷ [], record {
-      legal = (h.0, tt);
-      after = refl;
-      shown = λ n. refl;
-      closes = λ n asked rest more k. k asked;
-    })
+    subst (λ (v : JobsView). Told s.jobs v (Posted x false)) (sym (ap (λ (u : State). u.jobs) h.1)) (
+      Post x false ∷ [],
+      record {
+        legal = (h.0, tt);
+        after = refl;
+        shown = λ n. refl;
+        closes = λ n asked rest more k. k asked;
+      },
+    )
 
 -- a legal record of a session is one of its jobs
 pub told_lead : (s t : State) (es : List Event) → Lead s es t → (js : List JobsEvent) × Tells s.jobs t.jobs es js
 told_lead s t [] h =
     ([], subst (λ (u : State). Tells s.jobs u.jobs [] []) h (tells_none s.jobs))
 told_lead s t (e ∷ es) h =
-    let first = told_step s h.0 e h.1.0 in
-    let rest = told_lead h.0 t es h.1.1 in
-    (first.0 ++ rest.0,
-    tells_both s.jobs h.0.jobs t.jobs (e ∷ []) es first.0 rest.0 first.1 rest.1)
+    let first = told_step s h.0 e h.1 in
+    let rest = told_lead h.0 t es h.2 in (
+      first.0 ++ rest.0,
+      tells_both s.jobs h.0.jobs t.jobs (e ∷ []) es first.0 rest.0 first.1 rest.1,
+    )

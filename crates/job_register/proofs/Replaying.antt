@@ -52,29 +52,29 @@ replayed_from : (s t : State) (es : List Event) → Lead s es t
     → edits_in es ≡ record_from s.journal (commands_in (edits_in es))
 replayed_from s t [] h = refl
 replayed_from s t (Posted x accepted ∷ es) h =
-    let same : h.0.journal ≡ s.journal = step_journal s h.0 (Posted x accepted) h.1.0 in
+    let same : h.0.journal ≡ s.journal = step_journal s h.0 (Posted x accepted) h.1 in
     subst (λ (j : JournalView). edits_in es ≡ record_from j (commands_in (edits_in es))) same
-    (replayed_from h.0 t es h.1.1)
+    (replayed_from h.0 t es h.2)
 replayed_from s t (Made command reply ∷ es) h =
     let next : h.0.journal ≡ journal_of s.journal (answer s.journal command) =
-        step_journal s h.0 (Made command reply) h.1.0 in
+    step_journal s h.0 (Made command reply) h.1 in
     let rest : edits_in es
-        ≡ record_from (journal_of s.journal (answer s.journal command)) (commands_in (edits_in es)) =
-        subst (λ (j : JournalView). edits_in es ≡ record_from j (commands_in (edits_in es))) next
-        (replayed_from h.0 t es h.1.1) in
-    by_answer (answer s.journal command) refl rest where {
-      by_answer : (o : Option Answer) → answer s.journal command ≡ o
-          → edits_in es ≡ record_from (journal_of s.journal o) (commands_in (edits_in es))
-          → edits_in (Made command reply ∷ es)
-          ≡ record_from s.journal (commands_in (edits_in (Made command reply ∷ es)))
-      by_answer None e rest =
-          let no : is_edit command ≡ false = sym (is_edit_here s.journal command) ∙ ap is_edit_answer e in
-          rw no rest
-      by_answer (Some a) e rest =
-          let yes : is_edit command ≡ true = sym (is_edit_here s.journal command) ∙ ap is_edit_answer e in
-          let told : reply ≡ a.reply = answer_reply s h.0 command a reply e h.1.0.1.1 in
-          rw yes (rw e (ap₂ (λ r (fs : List Event). Made command r ∷ fs) told rest))
-    }
+    ≡ record_from (journal_of s.journal (answer s.journal command)) (commands_in (edits_in es)) =
+    subst (λ (j : JournalView). edits_in es ≡ record_from j (commands_in (edits_in es))) next
+    (replayed_from h.0 t es h.2) in
+    by_answer (answer s.journal command) refl rest
+  where
+    by_answer : (o : Option Answer) → answer s.journal command ≡ o
+        → edits_in es ≡ record_from (journal_of s.journal o) (commands_in (edits_in es))
+        → edits_in (Made command reply ∷ es)
+        ≡ record_from s.journal (commands_in (edits_in (Made command reply ∷ es)))
+    by_answer None e rest =
+        let no : is_edit command ≡ false = sym (is_edit_here s.journal command) ∙ ap is_edit_answer e in
+        rw no rest
+    by_answer (Some a) e rest =
+        let yes : is_edit command ≡ true = sym (is_edit_here s.journal command) ∙ ap is_edit_answer e in
+        let told : reply ≡ a.reply = answer_reply s h.0 command a reply e h.1.2 in
+        rw yes (rw e (ap₂ (λ r (fs : List Event). Made command r ∷ fs) told rest))
 
 pub legal_edits_are_replayed : LegalEditsAreReplayed
 legal_edits_are_replayed most es legal = replayed_from (first_state most) legal.0 es legal.1

@@ -2,6 +2,9 @@
 use Rattle.std.proofs.Common.{◌≡◌, ℕ, ◌-◌, ◌<◌, inl, inr, true, false, List, [], ◌∷◌, ◌++◌, length, Option, None, Some, refl, ap, sym, ◌∙◌, arith, subst}
 use Rattle.std.specs.Prelude.{Ok, Err, nat_eq}
 use Rattle.std.specs.declared.result.Result.{Result}
+use Rattle.std.specs.Prelude.{option_map, unwrap_or}
+use Rattle.std.proofs.Common.{get_or}
+use Rattle.std.proofs.lemmas.Option.{slice_get-get_or}
 use Rattle.std.proofs.lemmas.Bool.{cases_eq}
 use Rattle.std.proofs.lemmas.Bool.Decides.{nat_tests}
 use Rattle.plane_geometry.specs.declared.Point.{Point}
@@ -13,6 +16,7 @@ use Rattle.crease_store.specs.Adding.{add_of}
 use Rattle.crease_store.specs.Changed.{delete_of, set_of, clear_of}
 use Rattle.crease_store.specs.Merged.{merge_of}
 use Rattle.crease_store.specs.Loading.{LoadRefusal, load_of}
+use Rattle.undo_journal.specs.declared.Version.{Version}
 use Rattle.undo_journal.specs.Versions.{JournalView, greatest_version, committed, undone, redone, pattern_at, current_pattern, KeepsPatterns}
 use Rattle.undo_journal.specs.Invariant.{IsJournal}
 use Rattle.undo_journal.specs.JournalLaws.{committed_keeps, committed_taken_back, redone_keeps, IsJournal-opened, IsJournal-committed, IsJournal-undone, IsJournal-redone}
@@ -171,6 +175,18 @@ first_sound = IsJournal-opened (empty_on square_corners)
 sound_after : (es : List Event) → IsJournal (journal_after es)
 sound_after es = (steps_of first_journal es).sound first_sound
 
+-- the current version of a record is there
+pub current_there : (es : List Event) (j : JournalView) → j ≡ journal_after es
+    → pattern_at j j.current ≡ Some (current_pattern_of j)
+current_there es j here =
+    let sound : IsJournal j = subst IsJournal (sym here) (sound_after es) in
+    let inside : j.current < length j.versions = omega (arith, sound.current) in
+    let first : Version = record { pattern = empty_on square_corners; parent = 0 } in
+    let version : Version = get_or j.versions j.current first in
+    let found : pattern_at j j.current ≡ Some version.pattern =
+    ap (option_map (λ (v : Version). v.pattern)) (slice_get-get_or j.versions j.current first inside) in
+    found ∙ ap (λ (o : Option PatternView). Some (unwrap_or o (empty_on square_corners))) (sym found)
+
 -- ---- the laws
 
 pub versions_stay : VersionsStay
@@ -221,13 +237,13 @@ undo_brings_back most es command reply other legal change accepted =
     let two : List Event = Made command reply ∷ Made Undo other ∷ [] in
     let parts = lead_split (first_state most) legal.0 es two legal.1 in
     let s : State = parts.0 in
-    let here : s.journal ≡ j = lead_journal (first_state most) s es parts.1.0 in
+    let here : s.journal ≡ j = lead_journal (first_state most) s es parts.1 in
     let made = changes j command change in
     let a = made.answer_is in
     let told : answer s.journal command ≡ Some a =
-        ap (λ (k : JournalView). answer k command) here ∙ made.told in
-    let step = parts.1.1 in
-    let reply_is : reply ≡ a.reply = answer_reply s step.0 command a reply told step.1.0.1.1 in
+    ap (λ (k : JournalView). answer k command) here ∙ made.told in
+    let step = parts.2 in
+    let reply_is : reply ≡ a.reply = answer_reply s step.0 command a reply told step.1.2 in
     let quiet : is_refusal a.reply ≡ false = ap is_refusal (sym reply_is) ∙ accepted in
     let next : journal_past j (Made command reply) ≡ a.journal = ap (journal_of j) made.told in
     ap current_pattern (journal_from-append first_journal es two)
@@ -252,10 +268,10 @@ redo_goes_back most es reply other legal accepted =
     let two : List Event = Made Undo reply ∷ Made Redo other ∷ [] in
     let parts = lead_split (first_state most) legal.0 es two legal.1 in
     let s : State = parts.0 in
-    let here : s.journal ≡ j = lead_journal (first_state most) s es parts.1.0 in
-    let step = parts.1.1 in
-    let reply_is : reply ≡ (undo_answer s.journal).reply = step.1.0.1.1.0 in
+    let here : s.journal ≡ j = lead_journal (first_state most) s es parts.1 in
+    let step = parts.2 in
+    let reply_is : reply ≡ (undo_answer s.journal).reply = step.1.2.0 in
     let quiet : is_refusal (undo_answer j).reply ≡ false =
-        ap (λ (k : JournalView). is_refusal (undo_answer k).reply) (sym here) ∙ ap is_refusal (sym reply_is)
-        ∙ accepted in
+    ap (λ (k : JournalView). is_refusal (undo_answer k).reply) (sym here) ∙ ap is_refusal (sym reply_is)
+    ∙ accepted in
     journal_from-append first_journal es two ∙ undone_again j quiet

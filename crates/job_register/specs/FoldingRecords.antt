@@ -1,20 +1,16 @@
 -- What a record of a session shows of each folding job: the layer orders of the version that it names.
-use Rattle.std.specs.Prelude.{◌≡◌, ◌↔◌, ℕ, ◌==◌, Bool, true, false, if◌then◌else◌, List, [], ◌∷◌, ◌++◌, Some}
-use Rattle.std.specs.List.{AllPairs, Contains, flat_map}
+use Rattle.std.specs.Prelude.{◌≡◌, ℕ, ◌==◌, if◌then◌else◌, List, [], ◌∷◌, ◌++◌, Some}
+use Rattle.std.specs.List.{flat_map}
 use Rattle.crease_model.specs.View.{PatternView}
-use Rattle.isometry_map.specs.Folded.{FoldedView}
-use Rattle.sign_rules.specs.declared.sign.Sign.{Sign}
-use Rattle.search_cursor.specs.Place.{list_before}
 use Rattle.order_search.specs.Lists.{orders}
+use Rattle.order_search.specs.OrderedLists.{AreInOrder}
 use Rattle.job_enumeration.specs.Closings.{Closing, Shown, NoMore, Paused}
 use Rattle.job_enumeration.specs.Enumeration.{IsEnumeration}
 use Rattle.fold_jobs.specs.Limits.{first_budget}
 use Rattle.fold_jobs.specs.OwnEvents.{ShownOrder}
 use Rattle.fold_jobs.specs.Laws.{AreShown}
-use Rattle.layer_rules.specs.declared.face_pairs.FacePair.{FacePair}
-use Rattle.layer_rules.specs.FacePairs.{IsPairList}
 use Rattle.layer_rules.specs.LayerOrder.{IsLayerOrder}
-use Rattle.layer_rules.specs.Layering.{LayeringView, IsShapeOf, kinds_of}
+use Rattle.layer_rules.specs.Layering.{LayeringView, kinds_of}
 use Rattle.script_lang.specs.declared.command.Command.{Command}
 use Rattle.script_lang.specs.declared.command.Command.TheVariants.{Fold, Budget}
 use Rattle.script_lang.specs.declared.reply.Reply.{Reply}
@@ -24,15 +20,6 @@ use Rattle.job_register.specs.declared.session.Event.TheVariants.{Made, Posted}
 use Rattle.job_register.specs.Layers.{IsLayersOf}
 use Rattle.job_register.specs.Legal.{IsLegal}
 use Rattle.job_register.specs.RecordVersions.{version_in}
-
--- these are the layer orders of a pattern, each once, in lexicographic order
-pub record AreLayerOrders (p : PatternView) (shape : FoldedView) (pairs : List FacePair)
-    (list : List (List Sign)) : Type 0 where
-  pub shape_is : IsShapeOf p shape
-  pub pairs_are : IsPairList shape pairs
-  pub orders_are : (signs : List Sign)
-      → Contains list signs ↔ IsLayerOrder shape (kinds_of p.pieces) pairs signs
-  pub ascend : AllPairs (λ a b. list_before a b ≡ true) list
 
 -- ---- the replies that a job gave to its asks
 
@@ -88,7 +75,9 @@ pub record ShowsLayerOrders (most number version : ℕ) (es : List Event) : Type
   pub pattern_is : version_in es version ≡ Some pattern
   pub layers : LayeringView
   pub layers_are : IsLayersOf pattern layers
-  pub orders_are : AreLayerOrders pattern layers.shape layers.pairs (orders layers.rules)
+  -- the orders of its rules are the layer orders of that pattern, each once, in lexicographic order
+  pub orders_are : AreInOrder (IsLayerOrder layers.shape (kinds_of pattern.pieces) layers.pairs)
+      (orders layers.rules)
   -- the k-th order shown carries the number k and the version, and is the k-th of those orders
   pub shown : AreShown version layers.rules (shown_in number es)
   -- "no more" stands behind all of them, and pauses within the open lists between two orders

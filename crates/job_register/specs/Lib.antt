@@ -7,3 +7,4 @@ pub mod Text
 pub mod View
 pub mod Kept
 pub mod Replay
+pub mod FoldingRecords

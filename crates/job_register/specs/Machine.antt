@@ -1,5 +1,5 @@
 -- The session machine: what a command is answered, what an outcome that is posted changes, and the state after it.
-use Rattle.std.specs.Prelude.{◌≡◌, ◌≢◌, ℕ, ◌+◌, Bool, true, false, Option, None, Some, Ok, Err, length, IsTrue, IsFalse}
+use Rattle.std.specs.Prelude.{◌≡◌, ⊤, ℕ, ◌+◌, Bool, true, false, Option, None, Some, Ok, Err, length, IsTrue, IsFalse}
 use Rattle.std.specs.declared.result.Result.{Result}
 use Rattle.undo_journal.specs.Versions.{JournalView}
 use Rattle.worker_split.specs.declared.outcome.Outcome.{Outcome}

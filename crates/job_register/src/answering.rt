@@ -5,9 +5,7 @@ ghost use Rattle.script_lang.specs.Script.{meets_condition};
 ghost use Rattle.job_register.specs.Kept.{AreCurrent};
 ghost use Rattle.job_register.specs.Machine.{IsReady, IsAnswered};
 
-use crate::editing::{
-    commit_change, count_faults, list, load_block, new_sheet, redo, undo,
-};
+use crate::editing::{commit_change, count_faults, list, load_block, new_sheet, redo, undo};
 use crate::folding::{another, cancel, fold, set_budget, show};
 use crease_store::{add, clear, delete, merge, set_kind};
 use fold_jobs::Jobs;
@@ -68,7 +66,8 @@ pub(crate) fn answer_command<R: Threads + Sync>(
         Command::Fold => fold(rt, alloc, journal, jobs),
         Command::Another { job } => Ok(another(jobs, *job)),
         Command::Budget { budget } => Ok(set_budget(jobs, *budget)),
-        Command::Peek { job } | Command::Wait { job } => Ok(show(jobs, *job)),
+        Command::Peek { job } => Ok(show(jobs, *job)),
+        Command::Wait { job } => Ok(show(jobs, *job)),
         Command::Cancel { job } => Ok(cancel(jobs, *job)),
         Command::Bad { fault } => Ok(Reply::Refused {
             refusal: refusal_of_line(*fault),

@@ -15,8 +15,7 @@ ghost use Rattle.job_register.specs.Edits.{answer, change_answer, version_answer
 use crease_model::{Pattern, Sheet, SheetFault};
 use crease_store::{LoadStoreFault, StoreFault, load};
 use script_lang::{
-    Corners, LoadCause, LoadLines, LoadStop, Refusal, Reply, refusal_of_line,
-    refusal_of_store,
+    Corners, LoadCause, LoadLines, LoadStop, Refusal, Reply, refusal_of_line, refusal_of_store,
 };
 use std::alloc::{AllocError, Global};
 use undo_journal::{Journal, JournalFault};
@@ -73,7 +72,11 @@ pub(crate) fn commit_change(
     }
 }
 
-pub(crate) fn new_sheet(alloc: Global, journal: &mut Journal, corners: &Corners) -> Result<Reply, AllocError>
+pub(crate) fn new_sheet(
+    alloc: Global,
+    journal: &mut Journal,
+    corners: &Corners,
+) -> Result<Reply, AllocError>
     ensures ok { IfOk result (λ reply. record { reply = reply; journal = journal.new }
         ≡ sheet_answer journal.old (sheet_of corners.now)) }
     ensures err { OnErr result (journal.new ≡ journal.old) }
@@ -181,4 +184,3 @@ pub(crate) fn list(journal: &Journal) -> Reply
     let (version, pieces) = current_version(journal);
     Reply::Listed { version, pieces }
 }
-

@@ -1,10 +1,10 @@
 //! Laws of records.
 
+ghost use Rattle.job_register.specs.FoldingRecords.{LegalRecordsEnumerate};
 ghost use Rattle.job_register.specs.RecordVersions.{VersionsStay, UndoBringsBack, RedoGoesBack};
 ghost use Rattle.job_register.specs.Replay.{LegalEditsAreReplayed, FirstRow, RedoRow, RefusalRow, MergingRow, SheetRow, LoadRow, DeleteRow, BadRow, FullRow, RisingRow, RisingText};
 
 /// The commands about the pattern of a legal record have the machine's replies, whatever folding jobs do meanwhile.
-#[tactic(auto, using(crate::proofs::Replaying::legal_edits_are_replayed))]
 pub fn legal_edits_are_replayed()
     ensures { LegalEditsAreReplayed }
 {}
@@ -16,16 +16,24 @@ pub fn versions_stay()
 {}
 
 /// After an accepted change and an undo the current pattern is the one before the change.
-#[tactic(auto, using(crate::proofs::Versions::undo_brings_back))]
 pub fn undo_brings_back()
     ensures { UndoBringsBack }
 {}
 
 /// After an undo and a redo all is as it was before.
-#[tactic(auto, using(crate::proofs::Versions::redo_goes_back))]
 pub fn redo_goes_back()
     ensures { RedoGoesBack }
 {}
+
+/// Each folding job of a legal record shows the layer orders of the version that it names: the k-th order shown has the
+/// number k, that version and the k-th layer order of its pattern; "no more" stands behind the last; and the pauses
+/// between two orders lie within the open lists between them.
+pub fn records_enumerate()
+    ensures { LegalRecordsEnumerate }
+{
+    fold_jobs::laws::legal_records_enumerate();
+    order_search::laws::orders_are_in_order();
+}
 
 /// What the definitions answer to commands whose replies were worked by hand.
 #[tactic(auto, using(crate::proofs::Replaying::first_row, crate::proofs::Replaying::redo_row, crate::proofs::Replaying::refusal_row, crate::proofs::Replaying::merging_row, crate::proofs::Replaying::sheet_row, crate::proofs::Replaying::load_row, crate::proofs::Replaying::delete_row, crate::proofs::Replaying::bad_row, crate::proofs::Replaying::full_row, crate::proofs::Replaying::rising_row, crate::proofs::Replaying::rising_text))]

@@ -1,6 +1,6 @@
 //! The session and its record.
 
-ghost use Rattle.std.specs.Prelude.{◌≡◌, ◌++◌, ◌∷◌, [], ◌||◌, IfOk, IfSome, IsSome, IsTrue, OnOk, OnErr};
+ghost use Rattle.std.specs.Prelude.{◌≡◌, ◌++◌, ◌∷◌, [], ◌+◌, ◌||◌, IfOk, IfSome, IsSome, IsTrue, OnOk, OnErr, option_map};
 ghost use Rattle.script_lang.specs.Script.{meets_condition};
 ghost use Rattle.script_lang.specs.declared.reply.Reply.{Reply};
 ghost use Rattle.job_register.specs.Legal.{is_refusal, is_accepted};
@@ -173,6 +173,8 @@ impl Session {
             IsPosted self.old.state.jobs (settled outcome) taken self.new.state.jobs) }
         ensures event { IfOk result (λ taken. self.new.events
             ≡ self.old.events ++ Event.Posted (settled outcome) (is_accepted taken) ∷ []) }
+        ensures accepted { IfOk result (λ taken. MatchesIn self.old.state.jobs outcome
+            → taken ≡ Taken.Accepted) }
         ensures journal { self.new.state.journal ≡ self.old.state.journal }
         ensures fewer { IfOk result (λ taken. taken ≡ Taken.Accepted
             → waiting_in self.old.state.jobs outcome.job ≡ waiting_in self.new.state.jobs outcome.job + 1) }
