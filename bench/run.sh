@@ -1,7 +1,7 @@
 #!/usr/bin/env bash
-# Measures the exact numbers and the tests of open regions against plain Rust, replays runs of the board among threads, and
-# measures the reading of script text against `wc -w`. Its word is the number of rounds of numbers (12000 where there is
-# none). Times are processor times, the best of five.
+# Measures the exact numbers, the tests of open regions, editing and folding against plain Rust, replays runs of the board
+# among threads, and measures the reading of script text against `wc -w`. Its word is the number of rounds of numbers (12000
+# where there is none). Times are processor times, the best of five.
 cd "$(dirname "$0")" || exit 1
 rounds="${1:-12000}"
 times=5
@@ -84,6 +84,14 @@ all_editing() {
     measure editing pieces 10
 }
 
+# The faces of a pattern, and the folded shape of them.
+all_folding() {
+    (cd ../crates/bench_folding && rt run -- fold 1) >"$folder/log" 2>&1 || { cat "$folder/log"; exit 1; }
+    rustc -O --edition 2024 -o "$folder/folding" folding.rs || exit 1
+    measure folding faces 500
+    measure folding fold 500
+}
+
 # Pairs and triples of a crowd of faces, of the programs that `beside regions` built.
 crowds() {
     measure regions "pairs 128" 200
@@ -121,6 +129,7 @@ beside numbers "$rounds"
 beside regions "$region_rounds"
 crowds
 all_editing
+all_folding
 threads "$board_runs"
 if [ -x "$editor" ]; then
     text zerolength
