@@ -1,5 +1,7 @@
 //! The measures of crates/bench_regions in plain Rust, by the same elimination: `ROUNDS`, `pairs FACES ROUNDS` or
-//! `triples FACES ROUNDS`. The checksum is printed.
+//! `triples FACES ROUNDS`; and `layers ROUNDS`, that of crates/bench_layers. The checksum is printed.
+
+mod layers;
 
 use std::hint::black_box;
 
@@ -378,6 +380,10 @@ fn main() {
         let crowd: Vec<Region> = (0..number(1)).map(crowded).collect();
         for _ in 0..number(2) {
             sum = crowd_round(black_box(&crowd), measure == "triples", sum);
+        }
+    } else if measure == "layers" {
+        for _ in 0..number(1) {
+            sum = layers::layers_round(black_box(sum));
         }
     } else {
         let faces: Vec<Region> = FACES.iter().map(|&(x, y, radius, step)| face(x, y, radius, step)).collect();

@@ -1,7 +1,7 @@
 #!/usr/bin/env bash
-# Measures the exact numbers, the tests of open regions, editing and folding against plain Rust, replays runs of the board
-# among threads, and measures the reading of script text against `wc -w`. Its word is the number of rounds of numbers (12000
-# where there is none). Times are processor times, the best of five.
+# Measures the exact numbers, the tests of open regions, layers, editing and folding against plain Rust, replays runs of
+# the board among threads, and measures the reading of script text against `wc -w`. Its word is the number of rounds of
+# numbers (12000 where there is none). Times are processor times, the best of five.
 cd "$(dirname "$0")" || exit 1
 rounds="${1:-12000}"
 times=5
@@ -33,8 +33,10 @@ race() {
 same_checksums() {
     local count ours theirs
     for count in 1 3 "$3"; do
-        ours=$("$1" "$count")
-        theirs=$("$2" "$count")
+        # shellcheck disable=SC2086
+        ours=$($1 "$count")
+        # shellcheck disable=SC2086
+        theirs=$($2 "$count")
         if [ -z "$ours" ] || [ "$ours" != "$theirs" ]; then
             echo "the checksums of $count rounds differ: '$ours' and '$theirs'"
             exit 1
@@ -100,6 +102,16 @@ crowds() {
     measure regions "triples 256" 10
 }
 
+# layers ROUNDS: the pairs and rules of 128 strips, beside the plain program that `beside regions` built.
+layers() {
+    local proved="../crates/bench_layers/out/bench_layers" plain="$folder/regions layers"
+    echo "== layers, $1 rounds"
+    (cd ../crates/bench_layers && rt run -- 1) >"$folder/log" 2>&1 || { cat "$folder/log"; exit 1; }
+    same_checksums "$proved" "$plain" "$1"
+    race /dev/null "$proved $1" "$plain $1" | awk '{
+        printf "proved     %s s\nplain Rust %s s\nratio      %.2f\n", $1, $2, $1 / $2 }'
+}
+
 # script KIND: about four million bytes of lines that are read whole and refused. Those of the kind zerolength end where
 # they begin; those of the kind onborder lie within a side of the sheet, so their directions and sides are found too.
 script() {
@@ -128,6 +140,7 @@ text() {
 beside numbers "$rounds"
 beside regions "$region_rounds"
 crowds
+layers 10
 all_editing
 all_folding
 threads "$board_runs"

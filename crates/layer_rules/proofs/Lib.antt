@@ -16,4 +16,5 @@ mod TortillaRules
 mod TacoRules
 mod Beside
 mod OrderRules
+mod RulesInOrder
 mod Layerings

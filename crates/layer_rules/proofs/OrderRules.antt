@@ -18,7 +18,7 @@ use Rattle.layer_rules.specs.TacoTaco.{BreaksTacoTaco}
 use Rattle.layer_rules.specs.Transitivity.{BreaksTransitivity}
 use Rattle.layer_rules.specs.LayerOrder.{IsConsistent}
 
-false_when : (b : Bool) → (b ≡ true → ⊥) → b ≡ false
+pub false_when : (b : Bool) → (b ≡ true → ⊥) → b ≡ false
 false_when true never = absurd (never refl)
 false_when false never = refl
 

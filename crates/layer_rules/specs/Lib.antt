@@ -10,6 +10,7 @@ pub mod Candidates
 pub mod FixedRules
 pub mod Circles
 pub mod RuleMeaning
+pub mod RuleOrder
 pub mod FacePlaces
 pub mod TacoTortilla
 pub mod TacoTaco

@@ -2,13 +2,15 @@
 
 ghost use Rattle.std.specs.Prelude.{◌≡◌, ◌↔◌, ◌≤◌, ℕ, List, length, map, IfOk, IsTrue, MatchResult};
 ghost use Rattle.std.specs.Arc.{arc_value};
-ghost use Rattle.std.specs.List.{list_any};
+ghost use Rattle.std.specs.List.Sorted.{IsStrictlySortedBy};
 ghost use Rattle.crease_model.specs.declared.Kind.{Kind};
+ghost use Rattle.face_builder.specs.Faces.{most_faces};
 ghost use Rattle.isometry_map.specs.Folded.{FoldedView};
 ghost use Rattle.sign_rules.specs.declared.sign.Sign.{Sign};
 ghost use Rattle.sign_rules.specs.Rules.{RulesView, are_rules_on, is_broken, is_consistent};
 ghost use Rattle.layer_rules.specs.FacePairs.{IsPairList, most_pairs};
 ghost use Rattle.layer_rules.specs.LayerOrder.{IsConsistent};
+ghost use Rattle.layer_rules.specs.RuleOrder.{compare_rules};
 ghost use Rattle.layer_rules.specs.Layering.{IsLayering, IsInstanceFault, IsShapeOf, IsShapeFault, kinds_of};
 
 use crate::face_pairs::{FacePair, PairsFault, pairs};
@@ -122,26 +124,30 @@ pub struct Layering {
 impl Model for Layering {
     ghost use Rattle.std.specs.Prelude.{◌≤◌, length};
     ghost use Rattle.std.specs.Arc.{arc_value};
+    ghost use Rattle.face_builder.specs.Faces.{most_faces};
+    ghost use Rattle.layer_rules.specs.FacePairs.{most_pairs};
     ghost use Rattle.layer_rules.specs.Layering.{LayeringView};
 
     ghost Value = { LayeringView };
 
     ghost view = { λ l. record { shape = l.folded; pairs = l.pairs.items; rules = arc_value l.rules } };
 
-    ghost invariant = { λ l. length l.folded.faces ≤ 256 };
+    ghost invariant = { λ l. (length l.folded.faces ≤ most_faces) × (length l.pairs.items ≤ most_pairs) };
 }
 
 impl Layering {
     /// The number of faces.
     pub fn faces(&self) -> u32
-        ensures { result ≡ length self.now.shape.faces }
+        ensures count { result ≡ length self.now.shape.faces }
+        ensures few { result ≤ most_faces }
     {
         self.folded.faces().len() as u32
     }
 
     /// The pairs, by the first face, then by the second.
     pub fn pairs(&self) -> &[FacePair]
-        ensures { result.now ≡ self.now.pairs }
+        ensures value { result.now ≡ self.now.pairs }
+        ensures few { length result.now ≤ most_pairs }
     {
         self.pairs.as_slice()
     }
@@ -192,7 +198,7 @@ fn rules_on(alloc: Global, pairs: usize, rules: Vec<Rule>) -> Result<Arc<Rules>,
 /// The folded shape of a pattern, or why it has none.
 fn shape_of(alloc: Global, pattern: &Pattern) -> Result<Folded, InstanceFault>
     ensures exact { MatchResult result (IsShapeOf pattern.now) (IsShapeFault pattern.now) }
-    ensures few { IfOk result (λ shape. length shape.faces ≤ 256) }
+    ensures few { IfOk result (λ shape. length shape.faces ≤ most_faces) }
 {
     let map = faces(alloc, pattern)?;
     let folded = fold(alloc, &map)?;
@@ -207,10 +213,12 @@ fn layering_of<R: Threads + Sync>(
     folded: Folded,
 ) -> Result<Layering, InstanceFault>
     requires shape { IsShapeOf pattern.now folded }
-    requires few { length folded.faces ≤ 256 }
+    requires few { length folded.faces ≤ most_faces }
     ensures exact { MatchResult result (IsLayering pattern.now) (IsInstanceFault pattern.now) }
     ensures meaning { IfOk result (λ l. (signs : List Sign) → IsTrue (is_consistent l.rules signs)
         ↔ IsConsistent l.shape (kinds_of pattern.now.pieces) l.pairs signs) }
+    ensures few { IfOk result (λ l. length l.shape.faces ≤ most_faces) }
+    ensures order { IfOk result (λ l. IsStrictlySortedBy compare_rules l.rules.rules) }
 {
     let pairs = pairs(rt, alloc, &folded)?;
     let kinds = kinds_of(alloc, pattern.pieces())?;
@@ -235,6 +243,12 @@ pub fn instance<R: Threads + Sync>(
     // A sign list breaks no rule that it decides exactly where it breaks no condition all of whose pairs it decides.
     ensures meaning { IfOk result (λ l. (signs : List Sign) → IsTrue (is_consistent l.rules signs)
         ↔ IsConsistent l.shape (kinds_of pattern.now.pieces) l.pairs signs) }
+
+    // There are few faces; that there are few pairs is part of the layering.
+    ensures few { IfOk result (λ l. length l.shape.faces ≤ most_faces) }
+
+    // The rules are in order, each once.
+    ensures order { IfOk result (λ l. IsStrictlySortedBy compare_rules l.rules.rules) }
 {
     let folded = shape_of(alloc, pattern)?;
     layering_of(rt, alloc, pattern, folded)

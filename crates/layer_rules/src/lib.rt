@@ -10,6 +10,7 @@ mod layering;
 mod places;
 mod regions;
 mod rule_lists;
+mod rule_order;
 #[cfg(test)]
 mod shapes;
 #[cfg(test)]
