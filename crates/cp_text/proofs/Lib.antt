@@ -10,4 +10,5 @@ pub mod Grammar
 pub mod PrintedLines
 pub mod PartedText
 pub mod ShortestNumbers
+pub mod WholeNumbers
 pub mod ReadBack

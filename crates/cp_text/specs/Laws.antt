@@ -1,5 +1,5 @@
 -- What is written reads as what it was written from, and is as short as can be; words and lines.
-use Rattle.std.specs.Prelude.{◌≡◌, ◌≢◌, ◌↔◌, ℕ, List, [], ◌∷◌, ◌++◌, map, Ok}
+use Rattle.std.specs.Prelude.{◌≡◌, ◌≢◌, ◌↔◌, ℕ, ◌^◌, ◌<◌, ◌≤◌, List, [], ◌∷◌, ◌++◌, map, Ok, Some, decimal}
 use Rattle.surd_number.specs.declared.Surd.{Surd}
 use Rattle.surd_number.specs.Value.{number_of}
 use Rattle.crease_model.specs.View.{PatternView}
@@ -8,12 +8,18 @@ use Rattle.cp_text.specs.Words.{words_of, lines_of, without_return, bare_lines}
 use Rattle.cp_text.specs.PartedText.{IsLineOf, IsTextOf}
 use Rattle.cp_text.specs.NumberText.{number_text}
 use Rattle.cp_text.specs.NumberReading.{number_read}
+use Rattle.cp_text.specs.WholeNumber.{whole_read}
 use Rattle.cp_text.specs.ShortestText.{IsShortestText}
 use Rattle.cp_text.specs.LineText.{line_body, pattern_lines, pattern_text}
 use Rattle.cp_text.specs.LineReading.{line_read}
 
 abbrev pub NumbersReadBack : Type 0
 NumbersReadBack = (n : Surd) → number_read (number_text (number_of n)) ≡ Ok n
+
+-- the digits of a whole number within the limits read as it
+abbrev pub WholeNumbersReadBack : Type 0
+WholeNumbersReadBack =
+    (least most n : ℕ) → least ≤ n → n ≤ most → n < 10 ^ 10 → whole_read least most (decimal n) ≡ Some n
 
 -- a number's text is the shortest of all that read as it
 abbrev pub NumbersAreShortest : Type 0

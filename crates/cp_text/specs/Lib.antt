@@ -6,6 +6,7 @@ pub mod LineText
 pub mod Growth
 pub mod NumberWord
 pub mod NumberReading
+pub mod WholeNumber
 pub mod ShortestText
 pub mod NumberGrammar
 pub mod NumberValue

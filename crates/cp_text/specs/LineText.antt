@@ -1,5 +1,5 @@
 -- Crease lines and patterns as text.
-use Rattle.std.specs.Prelude.{ℕ, List, [], ◌∷◌, ◌++◌, map, flat_map}
+use Rattle.std.specs.Prelude.{ℕ, List, [], ◌∷◌, ◌++◌, map, flat_map, codes}
 use Rattle.surd_number.specs.declared.Surd.{Surd}
 use Rattle.surd_number.specs.Value.{number_of}
 use Rattle.plane_geometry.specs.declared.Point.{Point}
@@ -26,6 +26,10 @@ coordinate_text n = 32 ∷ number_text (number_of n)
 
 abbrev pub point_text : Point → List ℕ
 point_text p = coordinate_text p.x ++ coordinate_text p.y
+
+-- the two coordinates alone, parted by a space
+abbrev pub bare_point_text : Point → List ℕ
+bare_point_text p = number_text (number_of p.x) ++ codes " " ++ number_text (number_of p.y)
 
 -- the digit of the kind and the four coordinates, parted by single spaces
 abbrev pub line_body : CpLine → List ℕ

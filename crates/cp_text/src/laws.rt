@@ -3,12 +3,18 @@
 
 ghost use Rattle.cp_text.specs.NumberGrammar.{ReadsByTheGrammar};
 ghost use Rattle.cp_text.specs.NumberValue.{ReadsTheValue};
-ghost use Rattle.cp_text.specs.Laws.{NumbersReadBack, NumbersAreShortest, LinesReadBack, PatternsReadBack, PatternsArePartedByLines, WordsArePartedByBlanks, LinesEndAtFeeds};
+ghost use Rattle.cp_text.specs.Laws.{NumbersReadBack, WholeNumbersReadBack, NumbersAreShortest, LinesReadBack, PatternsReadBack, PatternsArePartedByLines, WordsArePartedByBlanks, LinesEndAtFeeds};
 
 /// Reading the text of a number gives that number.
 #[tactic(auto, using(crate::proofs::ReadBack::numbers_read_back))]
 pub fn numbers_read_back()
     ensures { NumbersReadBack }
+{}
+
+/// Reading the digits of a whole number within the limits gives that number.
+#[tactic(auto, using(crate::proofs::WholeNumbers::whole_numbers_read_back))]
+pub fn whole_numbers_read_back()
+    ensures { WholeNumbersReadBack }
 {}
 
 /// A number's text reads as it, and no text of fewer bytes does.

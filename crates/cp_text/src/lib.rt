@@ -9,6 +9,7 @@ mod number_writing;
 mod reading;
 #[cfg(test)]
 mod tests;
+mod whole_reading;
 mod words;
 mod writing;
 
@@ -16,11 +17,12 @@ pub use appending::all_or_nothing;
 pub use laws::{
     lines_end_at_feeds, lines_read_back, numbers_are_shortest, numbers_read_back,
     patterns_are_parted_by_lines, patterns_read_back, reads_by_the_grammar, reads_the_value,
-    words_are_parted_by_blanks,
+    whole_numbers_read_back, words_are_parted_by_blanks,
 };
 pub use line::{CpLine, Ends, LONGEST_LINE, LineFault};
 pub use number_reading::{NumberFault, is_digits, read_number};
 pub use number_writing::write_number;
 pub use reading::{read_coordinate, read_ends, read_kind, read_line, read_line_words, read_point};
+pub use whole_reading::read_whole;
 pub use words::{next_line, next_word};
-pub use writing::{write_line, write_pattern};
+pub use writing::{write_line, write_pattern, write_point};

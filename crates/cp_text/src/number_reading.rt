@@ -87,7 +87,7 @@ fn bounded_value(digits: &[u8]) -> u64
 
 // The value of up to 16 digits.
 #[tactic(auto, using(crate::proofs::Fractions::ten_fits))]
-fn exact_value(digits: &[u8]) -> u64
+pub(crate) fn exact_value(digits: &[u8]) -> u64
     requires { length digits.now ≤ 16 }
     ensures value { result ≡ digits_value 0 digits.now }
     ensures bound { result + 23 ≤ 23 * 10 ^ length digits.now }

@@ -230,6 +230,16 @@ fn reads_kinds_and_ends(rt: HostRuntime) {
 }
 
 #[test]
+fn reads_whole_numbers(rt: HostRuntime) {
+    assert_eq!(rt; read_whole(b"0000000300", 1, 300), Some(300));
+    assert_eq!(rt; read_whole(b"301", 1, 300), None);
+    assert_eq!(rt; read_whole(b"0", 1, 300), None);
+    assert_eq!(rt; read_whole(b"9999999999", 0, 9999999999), Some(9999999999));
+    assert_eq!(rt; read_whole(b"00000000300", 1, 300), None);
+    assert_eq!(rt; read_whole(b"", 0, 300), None);
+}
+
+#[test]
 fn bounds_a_line(rt: HostRuntime) -> Result<(), Fail> {
     let mut line = Vec::from_slice(rt.alloc(), b"2 0 0 1 1")?;
     for _ in 9..1000 {
@@ -267,6 +277,9 @@ fn writes_lines(rt: HostRuntime) -> Result<(), Fail> {
         assert_eq!(rt; out.as_slice(), text);
         assert_eq!(rt; judged(&text[..text.len() - 1]), Some(Ok(line)));
     }
+    let mut out = Vec::new(rt.alloc());
+    write_point(&mut out, &Point { x, y })?;
+    assert_eq!(rt; out.as_slice(), b"-600+400r2 12.5".as_slice());
     Ok(())
 }
 

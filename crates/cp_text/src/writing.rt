@@ -3,7 +3,7 @@
 ghost use Rattle.std.specs.Prelude.{◌≡◌, ◌++◌, ◌∷◌, OnOk, OnErr, map};
 ghost use Rattle.surd_number.specs.Value.{number_of};
 ghost use Rattle.plane_geometry.specs.Polygon.{sides_of};
-ghost use Rattle.cp_text.specs.LineText.{kind_digit, coordinate_text, point_text, line_body, line_text, line_of_side, line_of_segment, line_of_piece, line_of_auxiliary, lines_text, pattern_lines, pattern_text};
+ghost use Rattle.cp_text.specs.LineText.{kind_digit, coordinate_text, point_text, bare_point_text, line_body, line_text, line_of_side, line_of_segment, line_of_piece, line_of_auxiliary, lines_text, pattern_lines, pattern_text};
 ghost use Rattle.cp_text.specs.Growth.{KeepsFront};
 
 use crate::appending::all_or_nothing;
@@ -41,6 +41,26 @@ fn put_point(out: &mut Vec<u8>, point: &Point) -> Result<(), AllocError>
 {
     put_coordinate(out, &point.x)?;
     put_coordinate(out, &point.y)
+}
+
+#[tactic(auto, using(crate::proofs::Fronts::fronts))]
+fn put_bare_point(out: &mut Vec<u8>, point: &Point) -> Result<(), AllocError>
+    ensures ok { OnOk result (out.new.items ≡ out.old.items ++ bare_point_text point.now) }
+    ensures err { OnErr result (KeepsFront out.old.items out.new.items) }
+{
+    put_number(out, &point.x)?;
+    out.extend_from_slice(b" ")?;
+    put_number(out, &point.y)
+}
+
+/// Appends the two coordinates of a point, parted by a space. Want of memory leaves the output as it was.
+pub fn write_point(out: &mut Vec<u8>, point: &Point) -> Result<(), AllocError>
+    ensures ok { OnOk result (out.new.items ≡ out.old.items ++ bare_point_text point.now) }
+    ensures err { OnErr result (out.new.items ≡ out.old.items) }
+{
+    let before = out.len();
+    let written = put_bare_point(out, point);
+    all_or_nothing(out, before, written)
 }
 
 #[tactic(auto, using(crate::proofs::Fronts::fronts))]

@@ -3,3 +3,4 @@ pub mod Events
 pub mod Own
 pub mod Growing
 pub mod Right
+pub mod FewerTasks

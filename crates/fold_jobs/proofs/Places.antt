@@ -16,12 +16,12 @@ use Rattle.worker_split.specs.declared.piece.LastTask.TheVariants.{Never, Asked,
 use Rattle.worker_split.specs.declared.answers.Taken.{Taken}
 use Rattle.worker_split.specs.declared.answers.Taken.TheVariants.{Accepted, Stranger}
 use Rattle.worker_split.specs.Tasks.{TaskView, task_of, IsRightOutcome}
-use Rattle.worker_split.specs.Job.{JobView, piece_at, task_at, task_from, task_by, posted, IsTaken, IsRightFor}
+use Rattle.worker_split.specs.Job.{JobView, piece_at, task_at, task_from, task_by, posted, IsTaken, Matches, IsRightFor}
 use Rattle.fold_jobs.specs.declared.folding_job.FoldingJob.{FoldingJob}
 use Rattle.fold_jobs.specs.declared.folding_job.FoldAnswer.{FoldAnswer}
 use Rattle.fold_jobs.specs.declared.folding_job.FoldAnswer.TheVariants.{Shown, NoMore, Paused, NotReady}
 use Rattle.fold_jobs.specs.declared.refusal.JobRefusal.{JobRefusal}
-use Rattle.fold_jobs.specs.Machine.{JobsView, job_at, live_from, live_job, changed_from, answered, after_answer_to, MatchesJob, kept_from, IsPosted, IsRightIn}
+use Rattle.fold_jobs.specs.Machine.{JobsView, job_at, live_from, live_job, changed_from, answered, after_answer_to, MatchesJob, MatchesIn, kept_from, IsPosted, IsRightIn}
 use Rattle.fold_jobs.specs.Invariant.{AreNumbered}
 
 -- a job that there is stands in the list
@@ -121,6 +121,16 @@ numbered_at s n j numbered found =
     let own = ap (λ (k : FoldingJob). k.state.job) (here.is j) in
     omega (arith, here.some, own, numbered (n - 1) j here.inside)
 
+-- a task of a job names it
+pub job_in : {E : Type 0} (s : JobsView) (n : ℕ) (j : FoldingJob) (piece : ℕ) (result : Result (Option Task) E)
+    → job_at s n ≡ Some j → AreNumbered s.jobs
+    → IfOk result (λ task. option_map task_of task ≡ task_at j.state piece)
+    → IfOk result (λ task. IfSome task (λ t. t.job ≡ n))
+job_in s n j piece (Err e) found numbered task = task
+job_in s n j piece (Ok None) found numbered task = tt
+job_in s n j piece (Ok (Some t)) found numbered task =
+    task_job j.state piece (task_of t) task ∙ numbered_at s n j numbered found
+
 -- an outcome that is right for a task of a job is right among all jobs
 pub right_in : {E : Type 0} (s : JobsView) (n : ℕ) (j : FoldingJob) (piece : ℕ)
     (result : Result (Option Task) E) → job_at s n ≡ Some j → AreNumbered s.jobs
@@ -135,3 +145,17 @@ right_in s n j piece (Ok (Some t)) found numbered task right = λ x is_right k a
     is_right.job ∙ task_job j.state piece (task_of t) task ∙ numbered_at s n j numbered found in
     let same : j ≡ k = same_Some j k (sym found ∙ ap (job_at s) (sym number) ∙ at) in
     subst (λ (d : FoldingJob). IsRightFor d.state x) same (right x is_right)
+
+-- an outcome that is right for a task of a live job matches among all jobs
+pub answers_in : {E : Type 0} (s : JobsView) (n : ℕ) (j : FoldingJob) (piece : ℕ)
+    (result : Result (Option Task) E) → job_at s n ≡ Some j → j.cancelled ≡ false → AreNumbered s.jobs
+    → IfOk result (λ task. option_map task_of task ≡ task_at j.state piece)
+    → IfOk result (λ task. IfSome task (λ t. (x : Outcome) → IsRightOutcome (task_of t) x
+    → Matches j.state x))
+    → IfOk result (λ task. IfSome task (λ t. (x : Outcome) → IsRightOutcome (task_of t) x → MatchesIn s x))
+answers_in s n j piece (Err e) found live numbered task answers = answers
+answers_in s n j piece (Ok None) found live numbered task answers = answers
+answers_in s n j piece (Ok (Some t)) found live numbered task answers = λ x is_right.
+    let number : x.job ≡ n =
+    is_right.job ∙ task_job j.state piece (task_of t) task ∙ numbered_at s n j numbered found in
+    subst (λ o. MatchesJob o x) (sym (ap (job_at s) number ∙ found)) (live, answers x is_right)

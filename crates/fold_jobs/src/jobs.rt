@@ -1,4 +1,4 @@
-ghost use Rattle.std.specs.Prelude.{◌≡◌, ◌≤◌, ◌↔◌, ℕ, length, IfOk, IfSome, IsTrue, MatchOption, MatchResult, Ok, Err, None, Some, option_map};
+ghost use Rattle.std.specs.Prelude.{◌≡◌, ◌+◌, ◌≤◌, ◌↔◌, ℕ, length, IfOk, IfSome, IsSome, IsTrue, MatchOption, MatchResult, Ok, Err, None, Some, option_map};
 ghost use Rattle.std.specs.Arc.{arc_value};
 ghost use Rattle.fold_jobs.specs.Limits.{first_budget, greatest_budget};
 ghost use Rattle.fold_jobs.specs.Machine.{no_jobs, is_full, job_at, live_job};
@@ -74,7 +74,9 @@ impl Model for Jobs {
 
 impl Jobs {
     ghost use Rattle.fold_jobs.specs.Machine.{ask_answer, after_ask, answer_to, after_answer_to, cancel_answer, after_cancel, IsOpened, MatchesIn, IsPosted, IsRightWhereLive, IsRightIn, task_in, needed_in};
+    ghost use Rattle.fold_jobs.specs.Waiting.{waiting_in};
     ghost use Rattle.worker_split.specs.Tasks.{task_of, IsRightOutcome};
+    ghost use Rattle.worker_split.specs.declared.answers.Taken.TheVariants.{Accepted};
     ghost use Rattle.worker_split.specs.declared.outcome.Outcome.{Outcome};
 
     /// No jobs yet. Each is searched in at most `most` pieces.
@@ -168,7 +170,9 @@ impl Jobs {
     /// changes nothing, and comes back.
     pub fn post(&mut self, outcome: Outcome) -> Taken
         requires { IsRightWhereLive self.old outcome }
-        ensures { IsPosted self.old outcome result self.new }
+        ensures posted { IsPosted self.old outcome result self.new }
+        ensures fewer { result ≡ Accepted
+            → waiting_in self.old outcome.job ≡ waiting_in self.new outcome.job + 1 }
     {
         let Some(job) = self.job(outcome.job) else {
             return Taken::Stranger {
@@ -188,8 +192,11 @@ impl Jobs {
     /// What a piece of a job has still to answer in the open ask, if the job is there and was not cancelled.
     pub fn task(&self, job: u32, piece: u32) -> Result<Option<Task>, AllocError>
         ensures task { IfOk result (λ task. option_map task_of task ≡ task_in self.now job piece) }
+        ensures job { IfOk result (λ task. IfSome task (λ t. t.job ≡ job)) }
         ensures right { IfOk result (λ task. IfSome task (λ t. (x : Outcome) → IsRightOutcome (task_of t) x
             → IsRightIn self.now x)) }
+        ensures answers { IfOk result (λ task. IfSome task (λ t. (x : Outcome) → IsRightOutcome (task_of t) x
+            → MatchesIn self.now x)) }
     {
         let _ = &self.jobs;
         match self.live(job) {
@@ -198,9 +205,11 @@ impl Jobs {
         }
     }
 
-    /// The piece whose outcome the open ask of a job waits for, if the job is there and was not cancelled.
+    /// The piece whose outcome the open ask of a job waits for, if the job is there and was not cancelled. It has a
+    /// task.
     pub fn needs(&self, job: u32) -> Option<u32>
-        ensures { result ≡ needed_in self.now job }
+        ensures needed { result ≡ needed_in self.now job }
+        ensures task { IfSome result (λ piece. IsSome (task_in self.now job piece)) }
     {
         match self.live(job) {
             Ok(live) => live.state.needs(),

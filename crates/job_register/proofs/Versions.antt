@@ -19,13 +19,15 @@ use Rattle.undo_journal.specs.JournalLaws.{committed_keeps, committed_taken_back
 use Rattle.script_lang.specs.declared.block.LoadStop.{LoadStop}
 use Rattle.script_lang.specs.declared.block.LoadStop.TheVariants as stop
 use Rattle.script_lang.specs.declared.command.Command.{Command}
-use Rattle.script_lang.specs.declared.command.Command.TheVariants.{Add, Delete, Set, Merge, Clear, Sheet, Load, Undo, Redo, List as ListCommand, Check, Bad}
+use Rattle.script_lang.specs.declared.command.Command.TheVariants.{Add, Delete, Set, Merge, Clear, Sheet, Load, Undo, Redo, List as ListCommand, Check, Bad, Fold, Another, Budget, Peek, Wait, Cancel}
+use Rattle.script_lang.specs.declared.reply.Reply.{Reply}
 use Rattle.job_register.specs.declared.session.Event.{Event}
-use Rattle.job_register.specs.declared.session.Event.TheVariants.{Made}
-use Rattle.job_register.specs.Machine.{State, Answer, first_state, current_pattern_of, committed_answer, change_answer, sheet_answer, stop_answer, load_answer, redone_answer, answer}
-use Rattle.job_register.specs.Legal.{state_from, state_after, IsLegalFrom, is_refusal}
+use Rattle.job_register.specs.declared.session.Event.TheVariants.{Made, Posted}
+use Rattle.job_register.specs.Edits.{Answer, first_journal, current_pattern_of, committed_answer, change_answer, sheet_answer, stop_answer, load_answer, undo_answer, redone_answer, answer}
+use Rattle.job_register.specs.Machine.{State, first_state, IsEdit, IsAnswered}
+use Rattle.job_register.specs.Legal.{Lead, journal_of, journal_past, journal_from, journal_after, is_refusal}
 use Rattle.job_register.specs.RecordVersions.{is_change, VersionsStay, UndoBringsBack, RedoGoesBack}
-use Rattle.job_register.proofs.Records.{state_from-append}
+use Rattle.job_register.proofs.Records.{journal_from-append, lead_split, lead_journal}
 
 -- ---- what an answer does to the journal
 
@@ -41,152 +43,219 @@ both_steps i j k h h' =
     record { sound = λ sound. h'.sound (h.sound sound); keeps = λ v p e. h'.keeps v p (h.keeps v p e) }
 
 -- the answer is a commit of some pattern, or a refusal that changes nothing
-data IsCommit (s : State) : Answer → Type 0 where
-  commits : (a : Answer) (p : PatternView) → a.state.journal ≡ committed s.journal p
-      → (IsJournal s.journal → IsJournal (committed s.journal p)) → IsCommit s a
-  refuses : (a : Answer) → a.state.journal ≡ s.journal → is_refusal a.reply ≡ true → IsCommit s a
+data IsCommit (j : JournalView) : Answer → Type 0 where
+  commits : (a : Answer) (p : PatternView) → a.journal ≡ committed j p
+      → (IsJournal j → IsJournal (committed j p)) → IsCommit j a
+  refuses : (a : Answer) → a.journal ≡ j → is_refusal a.reply ≡ true → IsCommit j a
 
-version_commits : (s : State) (p : PatternView) → IsCommit s (committed_answer s p)
-version_commits s p =
-    elim (cases_eq (length s.journal.versions - 1) greatest_version) [
+version_commits : (j : JournalView) (p : PatternView) → IsCommit j (committed_answer j p)
+version_commits j p =
+    elim (cases_eq (length j.versions - 1) greatest_version) [
       | inl last ↦
-          let test : nat_eq (length s.journal.versions - 1) greatest_version ≡ true = grind (arith, nat_tests)
-          in
+          let test : nat_eq (length j.versions - 1) greatest_version ≡ true = grind (arith, nat_tests) in
           rw test (refuses _ refl refl)
       | inr room ↦
-          let test : nat_eq (length s.journal.versions - 1) greatest_version
-          ≡ false = grind (arith, nat_tests) in
-          rw test (commits _ p refl (λ h. IsJournal-committed s.journal p h (omega (arith, h.most))))
+          let test : nat_eq (length j.versions - 1) greatest_version ≡ false = grind (arith, nat_tests) in
+          rw test (commits _ p refl (λ h. IsJournal-committed j p h (omega (arith, h.most))))
     ]
 
-change_commits : (s : State) (r : Result PatternView StoreRefusal) → IsCommit s (change_answer s r)
-change_commits s (Ok p) = version_commits s p
-change_commits s (Err fault) = refuses _ refl refl
+change_commits : (j : JournalView) (r : Result PatternView StoreRefusal) → IsCommit j (change_answer j r)
+change_commits j (Ok p) = version_commits j p
+change_commits j (Err fault) = refuses _ refl refl
 
-sheet_commits : (s : State) (r : Result (List Point) ℕ) → IsCommit s (sheet_answer s r)
-sheet_commits s (Ok corners) = version_commits s (empty_on corners)
-sheet_commits s (Err corner) = refuses _ refl refl
+sheet_commits : (j : JournalView) (r : Result (List Point) ℕ) → IsCommit j (sheet_answer j r)
+sheet_commits j (Ok corners) = version_commits j (empty_on corners)
+sheet_commits j (Err corner) = refuses _ refl refl
 
-stop_commits : (s : State) (end : LoadStop) (p : PatternView) → IsCommit s (stop_answer s end p)
-stop_commits s stop.Ended p = version_commits s p
-stop_commits s (stop.Bad number fault) p = refuses _ refl refl
-stop_commits s stop.Unended p = refuses _ refl refl
+stop_commits : (j : JournalView) (end : LoadStop) (p : PatternView) → IsCommit j (stop_answer j end p)
+stop_commits j stop.Ended p = version_commits j p
+stop_commits j (stop.Bad number fault) p = refuses _ refl refl
+stop_commits j stop.Unended p = refuses _ refl refl
 
-load_commits : (s : State) (end : LoadStop) (r : Result PatternView LoadRefusal)
-    → IsCommit s (load_answer s end r)
-load_commits s end (Ok p) = stop_commits s end p
-load_commits s end (Err fault) = refuses _ refl refl
+load_commits : (j : JournalView) (end : LoadStop) (r : Result PatternView LoadRefusal)
+    → IsCommit j (load_answer j end r)
+load_commits j end (Ok p) = stop_commits j end p
+load_commits j end (Err fault) = refuses _ refl refl
 
-changes : (s : State) (command : Command) → is_change command ≡ true → IsCommit s (answer s command)
-changes s (Add kind from to) h = change_commits s (add_of (current_pattern_of s.journal) kind from to)
-changes s (Delete from to) h = change_commits s (delete_of (current_pattern_of s.journal) from to)
-changes s (Set kind from to) h = change_commits s (set_of (current_pattern_of s.journal) kind from to)
-changes s Merge h = version_commits s (merge_of (current_pattern_of s.journal))
-changes s Clear h = version_commits s (clear_of (current_pattern_of s.journal))
-changes s (Sheet corners) h = sheet_commits s (sheet_of corners)
-changes s (Load lines end) h = load_commits s end (load_of (current_pattern_of s.journal) lines)
-changes s Undo h = cc
-changes s Redo h = cc
-changes s ListCommand h = cc
-changes s Check h = cc
-changes s (Bad fault) h = cc
+-- the command has an answer, which is a commit
+record IsChange (j : JournalView) (o : Option Answer) : Type 0 where
+  answer_is : Answer
+  told : o ≡ Some answer_is
+  commit : IsCommit j answer_is
 
-commit_step : (s : State) (a : Answer) → IsCommit s a → IsMove s.journal a.state.journal
-commit_step s a (commits a' p e sound) =
-    subst (IsMove s.journal) (sym e) (record { sound = sound; keeps = committed_keeps s.journal p })
-commit_step s a (refuses a' e h) = subst (IsMove s.journal) (sym e) (stays s.journal)
+change_by : (j : JournalView) (a : Answer) → IsCommit j a → IsChange j (Some a)
+change_by j a h = record { answer_is = a; told = refl; commit = h }
 
-undo_step : (s : State) → IsMove s.journal (answer s Undo).state.journal
-undo_step s =
-    elim (cases_eq s.journal.current 0) [
+changes : (j : JournalView) (command : Command) → is_change command ≡ true → IsChange j (answer j command)
+changes j (Add kind from to) h =
+    change_by j _ (change_commits j (add_of (current_pattern_of j) kind from to))
+changes j (Delete from to) h = change_by j _ (change_commits j (delete_of (current_pattern_of j) from to))
+changes j (Set kind from to) h =
+    change_by j _ (change_commits j (set_of (current_pattern_of j) kind from to))
+changes j Merge h = change_by j _ (version_commits j (merge_of (current_pattern_of j)))
+changes j Clear h = change_by j _ (version_commits j (clear_of (current_pattern_of j)))
+changes j (Sheet corners) h = change_by j _ (sheet_commits j (sheet_of corners))
+changes j (Load lines end) h =
+    change_by j _ (load_commits j end (load_of (current_pattern_of j) lines))
+changes j Undo h = absurd (cc)
+changes j Redo h = absurd (cc)
+changes j ListCommand h = absurd (cc)
+changes j Check h = absurd (cc)
+changes j (Bad fault) h = absurd (cc)
+changes j Fold h = absurd (cc)
+changes j (Another job) h = absurd (cc)
+changes j (Budget budget) h = absurd (cc)
+changes j (Peek job) h = absurd (cc)
+changes j (Wait job) h = absurd (cc)
+changes j (Cancel job) h = absurd (cc)
+
+commit_step : (j : JournalView) (a : Answer) → IsCommit j a → IsMove j a.journal
+commit_step j a (commits a' p e sound) =
+    subst (IsMove j) (sym e) (record { sound = sound; keeps = committed_keeps j p })
+commit_step j a (refuses a' e h) = subst (IsMove j) (sym e) (stays j)
+
+change_step : (j : JournalView) (o : Option Answer) → IsChange j o → IsMove j (journal_of j o)
+change_step j o h =
+    subst (λ (p : Option Answer). IsMove j (journal_of j p)) (sym h.told) (commit_step j h.answer_is h.commit)
+
+undo_step : (j : JournalView) → IsMove j (undo_answer j).journal
+undo_step j =
+    elim (cases_eq j.current 0) [
       | inl first ↦
-          let test : nat_eq s.journal.current 0 ≡ true = grind (arith, nat_tests) in
-          rw test (stays s.journal)
+          let test : nat_eq j.current 0 ≡ true = grind (arith, nat_tests) in
+          rw test (stays j)
       | inr later ↦
-          let test : nat_eq s.journal.current 0 ≡ false = grind (arith, nat_tests) in
-          rw test (record { sound = λ h. IsJournal-undone s.journal h (omega arith); keeps = λ v p e. e })
+          let test : nat_eq j.current 0 ≡ false = grind (arith, nat_tests) in
+          rw test (record { sound = λ h. IsJournal-undone j h (omega arith); keeps = λ v p e. e })
     ]
 
-redo_step : (s : State) (o : Option JournalView) → redone s.journal ≡ o
-    → IsMove s.journal (redone_answer s o).state.journal
-redo_step s None e = stays s.journal
-redo_step s (Some j) e =
-    record { sound = λ h. IsJournal-redone s.journal j h e; keeps = redone_keeps s.journal j e }
+redo_step : (j : JournalView) (o : Option JournalView) → redone j ≡ o → IsMove j (redone_answer j o).journal
+redo_step j None e = stays j
+redo_step j (Some next) e =
+    record { sound = λ h. IsJournal-redone j next h e; keeps = redone_keeps j next e }
 
-step_of : (s : State) (command : Command) → IsMove s.journal (answer s command).state.journal
-step_of s (Add kind from to) = commit_step s (answer s (Add kind from to)) (changes s (Add kind from to) refl)
-step_of s (Delete from to) = commit_step s (answer s (Delete from to)) (changes s (Delete from to) refl)
-step_of s (Set kind from to) = commit_step s (answer s (Set kind from to)) (changes s (Set kind from to) refl)
-step_of s Merge = commit_step s (answer s Merge) (changes s Merge refl)
-step_of s Clear = commit_step s (answer s Clear) (changes s Clear refl)
-step_of s (Sheet corners) = commit_step s (answer s (Sheet corners)) (changes s (Sheet corners) refl)
-step_of s (Load lines end) = commit_step s (answer s (Load lines end)) (changes s (Load lines end) refl)
-step_of s Undo = undo_step s
-step_of s Redo = redo_step s (redone s.journal) refl
-step_of s ListCommand = stays s.journal
-step_of s Check = stays s.journal
-step_of s (Bad fault) = stays s.journal
+step_of : (j : JournalView) (command : Command) → IsMove j (journal_of j (answer j command))
+step_of j (Add kind from to) = change_step j _ (changes j (Add kind from to) refl)
+step_of j (Delete from to) = change_step j _ (changes j (Delete from to) refl)
+step_of j (Set kind from to) = change_step j _ (changes j (Set kind from to) refl)
+step_of j Merge = change_step j _ (changes j Merge refl)
+step_of j Clear = change_step j _ (changes j Clear refl)
+step_of j (Sheet corners) = change_step j _ (changes j (Sheet corners) refl)
+step_of j (Load lines end) = change_step j _ (changes j (Load lines end) refl)
+step_of j Undo = undo_step j
+step_of j Redo = redo_step j (redone j) refl
+step_of j ListCommand = stays j
+step_of j Check = stays j
+step_of j (Bad fault) = stays j
+step_of j Fold = stays j
+step_of j (Another job) = stays j
+step_of j (Budget budget) = stays j
+step_of j (Peek job) = stays j
+step_of j (Wait job) = stays j
+step_of j (Cancel job) = stays j
 
-steps_of : (s : State) (es : List Event) → IsMove s.journal (state_from s es).journal
-steps_of s [] = stays s.journal
-steps_of s (Made command reply ∷ es) =
-    let next = (answer s command).state in
-    both_steps s.journal next.journal (state_from next es).journal (step_of s command) (steps_of next es)
+past : (j : JournalView) (e : Event) → IsMove j (journal_past j e)
+past j (Made command reply) = step_of j command
+past j (Posted x accepted) = stays j
 
-first_sound : IsJournal first_state.journal
-unfolding first_state
+steps_of : (j : JournalView) (es : List Event) → IsMove j (journal_from j es)
+steps_of j [] = stays j
+steps_of j (e ∷ es) =
+    both_steps j (journal_past j e) (journal_from (journal_past j e) es) (past j e)
+    (steps_of (journal_past j e) es)
+
+first_sound : IsJournal first_journal
+unfolding first_journal
 first_sound = IsJournal-opened (empty_on square_corners)
 
-sound_after : (es : List Event) → IsJournal (state_after es).journal
-sound_after es = (steps_of first_state es).sound first_sound
+sound_after : (es : List Event) → IsJournal (journal_after es)
+sound_after es = (steps_of first_journal es).sound first_sound
 
 -- ---- the laws
 
 pub versions_stay : VersionsStay
 versions_stay es later version p e =
-    ap (λ (s : State). pattern_at s.journal version) (state_from-append first_state es later)
-    ∙ (steps_of (state_after es) later).keeps version p e
+    ap (λ (j : JournalView). pattern_at j version) (journal_from-append first_journal es later)
+    ∙ (steps_of (journal_after es) later).keeps version p e
 
-legal_rest : (s : State) (es fs : List Event) → IsLegalFrom s (es ++ fs) → IsLegalFrom (state_from s es) fs
-legal_rest s [] fs h = h
-legal_rest s (Made command reply ∷ es) fs h = legal_rest (answer s command).state es fs h.1
+edit_reply : (s t : State) (o : Option Answer) (a : Answer) (r : Reply) → o ≡ Some a → IsEdit s o r t
+    → r ≡ a.reply
+edit_reply s t o a r e h = (subst (λ (p : Option Answer). IsEdit s p r t) e h).0
 
-committed_back : (s : State) (a : Answer) → IsJournal s.journal → IsCommit s a → is_refusal a.reply ≡ false
-    → current_pattern (answer a.state Undo).state.journal ≡ current_pattern s.journal
-committed_back s a sound (refuses a' e h) accepted = cc
-committed_back s a sound (commits a' p e kept) accepted =
-    let below : s.journal.current < length s.journal.versions = omega (arith, sound.current) in
-    let later : nat_eq (length s.journal.versions) 0 ≡ false = grind (arith, nat_tests) in
-    let back : (answer (record { journal = committed s.journal p }) Undo).state.journal
-    ≡ undone (committed s.journal p) = rw later refl in
-    ap (λ (j : JournalView). current_pattern (answer (record { journal = j }) Undo).state.journal) e
+-- where the command is about the pattern, its reply is that of its answer
+pub answer_reply : (s t : State) (command : Command) (a : Answer) (r : Reply)
+    → answer s.journal command ≡ Some a → IsAnswered s command r t → r ≡ a.reply
+answer_reply s t (Add kind from to) a r e h = edit_reply s t _ a r e h
+answer_reply s t (Delete from to) a r e h = edit_reply s t _ a r e h
+answer_reply s t (Set kind from to) a r e h = edit_reply s t _ a r e h
+answer_reply s t Merge a r e h = edit_reply s t _ a r e h
+answer_reply s t Clear a r e h = edit_reply s t _ a r e h
+answer_reply s t (Sheet corners) a r e h = edit_reply s t _ a r e h
+answer_reply s t (Load lines end) a r e h = edit_reply s t _ a r e h
+answer_reply s t Undo a r e h = edit_reply s t _ a r e h
+answer_reply s t Redo a r e h = edit_reply s t _ a r e h
+answer_reply s t ListCommand a r e h = edit_reply s t _ a r e h
+answer_reply s t Check a r e h = edit_reply s t _ a r e h
+answer_reply s t (Bad fault) a r e h = edit_reply s t _ a r e h
+answer_reply s t Fold a r e h = cc
+answer_reply s t (Another job) a r e h = cc
+answer_reply s t (Budget budget) a r e h = cc
+answer_reply s t (Peek job) a r e h = cc
+answer_reply s t (Wait job) a r e h = cc
+answer_reply s t (Cancel job) a r e h = cc
+
+committed_back : (j : JournalView) (a : Answer) → IsJournal j → IsCommit j a → is_refusal a.reply ≡ false
+    → current_pattern (undo_answer a.journal).journal ≡ current_pattern j
+committed_back j a sound (refuses a' e h) accepted = cc
+committed_back j a sound (commits a' p e kept) accepted =
+    let below : j.current < length j.versions = omega (arith, sound.current) in
+    let later : nat_eq (length j.versions) 0 ≡ false = grind (arith, nat_tests) in
+    let back : (undo_answer (committed j p)).journal ≡ undone (committed j p) = rw later refl in
+    ap (λ (k : JournalView). current_pattern (undo_answer k).journal) e
     ∙ ap current_pattern back
-    ∙ committed_taken_back s.journal p below
+    ∙ committed_taken_back j p below
 
 pub undo_brings_back : UndoBringsBack
-undo_brings_back es command reply other legal change accepted =
-    let s = state_after es in
-    let rest = legal_rest first_state es (Made command reply ∷ Made Undo other ∷ []) legal in
-    let told : is_refusal (answer s command).reply ≡ false = ap is_refusal (sym rest.0) ∙ accepted in
-    ap (λ (s : State). current_pattern s.journal)
-    (state_from-append first_state es (Made command reply ∷ Made Undo other ∷ []))
-    ∙ committed_back s (answer s command) (sound_after es) (changes s command change) told
+undo_brings_back most es command reply other legal change accepted =
+    let j = journal_after es in
+    let two : List Event = Made command reply ∷ Made Undo other ∷ [] in
+    let parts = lead_split (first_state most) legal.0 es two legal.1 in
+    let s : State = parts.0 in
+    let here : s.journal ≡ j = lead_journal (first_state most) s es parts.1.0 in
+    let made = changes j command change in
+    let a = made.answer_is in
+    let told : answer s.journal command ≡ Some a =
+        ap (λ (k : JournalView). answer k command) here ∙ made.told in
+    let step = parts.1.1 in
+    let reply_is : reply ≡ a.reply = answer_reply s step.0 command a reply told step.1.0.1.1 in
+    let quiet : is_refusal a.reply ≡ false = ap is_refusal (sym reply_is) ∙ accepted in
+    let next : journal_past j (Made command reply) ≡ a.journal = ap (journal_of j) made.told in
+    ap current_pattern (journal_from-append first_journal es two)
+    ∙ ap (λ (k : JournalView). current_pattern (undo_answer k).journal) next
+    ∙ committed_back j a (sound_after es) made.commit quiet
 
-undone_again : (s : State) → is_refusal (answer s Undo).reply ≡ false
-    → (answer (answer s Undo).state Redo).state ≡ s
-undone_again s accepted =
-    elim (cases_eq s.journal.current 0) [
+undone_again : (j : JournalView) → is_refusal (undo_answer j).reply ≡ false
+    → (redone_answer (undo_answer j).journal (redone (undo_answer j).journal)).journal ≡ j
+undone_again j accepted =
+    elim (cases_eq j.current 0) [
       | inl first ↦
-          let test : nat_eq s.journal.current 0 ≡ true = grind (arith, nat_tests) in
+          let test : nat_eq j.current 0 ≡ true = grind (arith, nat_tests) in
           let never : true ≡ false = rw test at accepted in cc
       | inr later ↦
-          let test : nat_eq s.journal.current 0 ≡ false = grind (arith, nat_tests) in
+          let test : nat_eq j.current 0 ≡ false = grind (arith, nat_tests) in
           rw test refl
     ]
 
 pub redo_goes_back : RedoGoesBack
-redo_goes_back es reply other legal accepted =
-    let s = state_after es in
-    let rest = legal_rest first_state es (Made Undo reply ∷ Made Redo other ∷ []) legal in
-    state_from-append first_state es (Made Undo reply ∷ Made Redo other ∷ [])
-    ∙ undone_again s (ap is_refusal (sym rest.0) ∙ accepted)
+redo_goes_back most es reply other legal accepted =
+    let j = journal_after es in
+    let two : List Event = Made Undo reply ∷ Made Redo other ∷ [] in
+    let parts = lead_split (first_state most) legal.0 es two legal.1 in
+    let s : State = parts.0 in
+    let here : s.journal ≡ j = lead_journal (first_state most) s es parts.1.0 in
+    let step = parts.1.1 in
+    let reply_is : reply ≡ (undo_answer s.journal).reply = step.1.0.1.1.0 in
+    let quiet : is_refusal (undo_answer j).reply ≡ false =
+        ap (λ (k : JournalView). is_refusal (undo_answer k).reply) (sym here) ∙ ap is_refusal (sym reply_is)
+        ∙ accepted in
+    journal_from-append first_journal es two ∙ undone_again j quiet

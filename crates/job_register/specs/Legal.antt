@@ -1,48 +1,69 @@
 -- Records of a session, and which of them are legal.
-use Rattle.std.specs.Prelude.{◌≡◌, Bool, true, false, List, [], ◌∷◌, map, ⊤}
+use Rattle.std.specs.Prelude.{◌≡◌, ℕ, Bool, true, false, List, [], ◌∷◌, ◌++◌, Option, None, Some, IsTrue}
 use Rattle.std.specs.List.{list_any}
+use Rattle.undo_journal.specs.Versions.{JournalView}
+use Rattle.worker_split.specs.declared.answers.Taken.{Taken}
+use Rattle.worker_split.specs.declared.answers.Taken.TheVariants.{Accepted, Stranger}
 use Rattle.script_lang.specs.declared.command.Command.{Command}
 use Rattle.script_lang.specs.declared.reply.Reply.{Reply}
-use Rattle.script_lang.specs.declared.reply.Reply.TheVariants.{Version, Listed, Checked, Refused}
+use Rattle.script_lang.specs.declared.reply.Reply.TheVariants as reply
+use Rattle.script_lang.specs.Script.{meets_condition}
 use Rattle.job_register.specs.declared.session.Event.{Event}
-use Rattle.job_register.specs.declared.session.Event.TheVariants.{Made}
-use Rattle.job_register.specs.Machine.{State, first_state, answer}
+use Rattle.job_register.specs.declared.session.Event.TheVariants.{Made, Posted}
+use Rattle.job_register.specs.Edits.{Answer, answer, first_journal}
+use Rattle.job_register.specs.Machine.{State, first_state, IsReady, IsAnswered, IsTakenIn}
 
-abbrev pub command_in : Event → Command
-command_in (Made command reply) = command
+-- one event: a command that meets its conditions and is answered, or an outcome that is posted
+abbrev pub IsStep : State → Event → State → Type 0
+IsStep s (Made command r) t = IsTrue (meets_condition command) × IsReady s command × IsAnswered s command r t
+IsStep s (Posted x accepted) t = IsTakenIn s x accepted t
 
-abbrev pub reply_in : Event → Reply
-reply_in (Made command reply) = reply
+-- the events lead from one state to the other
+abbrev pub Lead : State → List Event → State → Type 0
+Lead s [] t = s ≡ t
+Lead s (e ∷ es) t = (m : State) × IsStep s e m × Lead m es t
 
-abbrev pub after : State → Event → State
-after s (Made command reply) = (answer s command).state
+-- a record of a session whose jobs may have so many pieces: each reply is the machine's, in the state that the
+-- events before it lead to
+abbrev pub IsLegal : ℕ → List Event → Type 0
+IsLegal most es = (t : State) × Lead (first_state most) es t
 
--- the state that the events lead to
-abbrev pub state_from : State → List Event → State
-state_from s [] = s
-state_from s (e ∷ es) = state_from (after s e) es
+abbrev pub is_accepted : Taken → Bool
+is_accepted Accepted = true
+is_accepted (Stranger kept came) = false
 
-abbrev pub state_after : List Event → State
-state_after es = state_from first_state es
+-- ---- what the events say by themselves
 
--- each command has the reply of the machine in the state that the events before it lead to
-abbrev pub IsLegalFrom : State → List Event → Type 0
-IsLegalFrom s [] = ⊤
-IsLegalFrom s (Made command reply ∷ es) =
-    (reply ≡ (answer s command).reply) × IsLegalFrom (answer s command).state es
+abbrev pub journal_of : JournalView → Option Answer → JournalView
+journal_of j None = j
+journal_of j (Some a) = a.journal
 
-abbrev pub IsLegal : List Event → Type 0
-IsLegal es = IsLegalFrom first_state es
+-- the journal after an event, which only commands about the pattern change
+abbrev pub journal_past : JournalView → Event → JournalView
+journal_past j (Made command r) = journal_of j (answer j command)
+journal_past j (Posted x accepted) = j
+
+abbrev pub journal_from : JournalView → List Event → JournalView
+journal_from j [] = j
+journal_from j (e ∷ es) = journal_from (journal_past j e) es
+
+-- the versions that the events made
+abbrev pub journal_after : List Event → JournalView
+journal_after es = journal_from first_journal es
 
 abbrev pub commands_in : List Event → List Command
-commands_in es = map command_in es
+commands_in [] = []
+commands_in (Made command r ∷ es) = command ∷ commands_in es
+commands_in (Posted x accepted ∷ es) = commands_in es
 
 abbrev pub is_refusal : Reply → Bool
-is_refusal (Version version pieces) = false
-is_refusal (Listed version pieces) = false
-is_refusal (Checked version faults) = false
-is_refusal (Refused refusal) = true
+is_refusal (reply.Refused r) = true
+is_refusal r = false
+
+abbrev pub refuses : Event → Bool
+refuses (Made command r) = is_refusal r
+refuses (Posted x accepted) = false
 
 -- some reply is a refusal
 abbrev pub has_refusal : List Event → Bool
-has_refusal es = list_any (λ e. is_refusal (reply_in e)) es
+has_refusal es = list_any refuses es

@@ -1,3 +1,5 @@
+pub mod Edits
+pub mod Layers
 pub mod Machine
 pub mod Legal
 pub mod RecordVersions

@@ -1,100 +1,138 @@
--- The session machine: the reply to each command, and the state after it.
-use Rattle.std.specs.Prelude.{ℕ, List, Option, None, Some, Ok, Err, unwrap_or, length, nat_eq, if◌then◌else◌}
+-- The session machine: what a command is answered, what an outcome that is posted changes, and the state after it.
+use Rattle.std.specs.Prelude.{◌≡◌, ◌≢◌, ℕ, ◌+◌, Bool, true, false, Option, None, Some, Ok, Err, length, IsTrue, IsFalse}
 use Rattle.std.specs.declared.result.Result.{Result}
-use Rattle.plane_geometry.specs.declared.Point.{Point}
-use Rattle.crease_model.specs.View.{PatternView, empty_on}
-use Rattle.crease_model.specs.Sheet.{square_corners}
-use Rattle.crease_model.specs.NewSheet.{sheet_of}
-use Rattle.crease_model.specs.Rules.{size_of}
-use Rattle.crease_store.specs.declared.faults.StoreRefusal.{StoreRefusal}
-use Rattle.crease_store.specs.Adding.{add_of}
-use Rattle.crease_store.specs.Changed.{delete_of, set_of, clear_of}
-use Rattle.crease_store.specs.Merged.{merge_of}
-use Rattle.crease_store.specs.Loading.{LoadRefusal, load_of}
-use Rattle.undo_journal.specs.Versions.{JournalView, greatest_version, opened, committed, undone, redone, current_pattern, greatest_of}
-use Rattle.script_lang.specs.declared.block.LoadStop.{LoadStop}
-use Rattle.script_lang.specs.declared.block.LoadStop.TheVariants as stop
+use Rattle.undo_journal.specs.Versions.{JournalView}
+use Rattle.worker_split.specs.declared.outcome.Outcome.{Outcome}
 use Rattle.script_lang.specs.declared.command.Command.{Command}
-use Rattle.script_lang.specs.declared.command.Command.TheVariants.{Add, Delete, Set, Merge, Clear, Sheet, Load, Undo, Redo, List as ListCommand, Check, Bad}
-use Rattle.script_lang.specs.declared.reply.LoadCause.TheVariants as cause
+use Rattle.script_lang.specs.declared.command.Command.TheVariants.{Fold, Another, Budget, Peek, Wait, Cancel}
 use Rattle.script_lang.specs.declared.reply.Reply.{Reply}
-use Rattle.script_lang.specs.declared.reply.Reply.TheVariants.{Version, Listed, Checked, Refused}
-use Rattle.script_lang.specs.declared.reply.Refusal.{Refusal}
-use Rattle.script_lang.specs.declared.reply.Refusal.TheVariants as refusal
-use Rattle.vertex_checks.specs.Faults.{faults_of}
-use Rattle.script_lang.specs.Replies.{line_refusal, store_refusal}
+use Rattle.script_lang.specs.declared.reply.Reply.TheVariants as reply
+use Rattle.script_lang.specs.declared.refusal.Refusal.{Refusal}
+use Rattle.script_lang.specs.declared.refusal.Refusal.TheVariants as refusal
+use Rattle.fold_jobs.specs.declared.folding_job.FoldAnswer.{FoldAnswer}
+use Rattle.fold_jobs.specs.declared.folding_job.FoldAnswer.TheVariants.{Shown, NoMore, Paused, NotReady}
+use Rattle.fold_jobs.specs.declared.refusal.JobRefusal.{JobRefusal}
+use Rattle.fold_jobs.specs.declared.refusal.JobRefusal.TheVariants as job
+use Rattle.fold_jobs.specs.Machine.{JobsView, no_jobs, is_full, opened_in, ask_answer, after_ask, answer_to, after_answer_to, cancel_answer, after_cancel, MatchesIn, posted_in, needed_in}
+use Rattle.fold_jobs.specs.Record.{IsRightPostIn}
+use Rattle.layer_rules.specs.declared.layering.InstanceFault.{InstanceFault}
+use Rattle.layer_rules.specs.declared.layering.InstanceFault.TheVariants as fault
+use Rattle.layer_rules.specs.Layering.{LayeringView, IsInstanceFault}
+use Rattle.job_register.specs.declared.session.Event.{Event}
+use Rattle.job_register.specs.declared.session.Event.TheVariants.{Made, Posted}
+use Rattle.job_register.specs.Edits.{Answer, answer, first_journal, current_pattern_of}
+use Rattle.job_register.specs.Layers.{IsLayersOf}
 
--- what the commands before have made
+-- the versions of the pattern, and the folding jobs
 pub record State : Type 0 where
   pub journal : JournalView
+  pub jobs : JobsView
 
--- version 0 is the square sheet with nothing on it
-unfoldable pub first_state : State
-first_state = record { journal = opened (empty_on square_corners) }
+-- a job may have so many pieces
+abbrev pub first_state : ℕ → State
+first_state most = record { journal = first_journal; jobs = no_jobs most }
 
--- a reply, and the state after it
-pub record Answer : Type 0 where
-  pub reply : Reply
-  pub state : State
+-- ---- commands about the pattern leave the jobs as they are
 
-abbrev pub current_pattern_of : JournalView → PatternView
-current_pattern_of j = unwrap_or (current_pattern j) (empty_on square_corners)
+abbrev pub IsEdit : State → Option Answer → Reply → State → Type 0
+IsEdit s None r t = ⊥
+IsEdit s (Some a) r t = (r ≡ a.reply) × (t ≡ record s { journal = a.journal })
 
--- a refusal changes nothing
-abbrev pub refusal_answer : State → Refusal → Answer
-refusal_answer s r = record { reply = Refused r; state = s }
+-- ---- fold
 
--- the journal has changed, and its current version is told
-abbrev pub version_answer : JournalView → Answer
-version_answer j = record {
-  reply = Version j.current (size_of (current_pattern_of j));
-  state = record { journal = j };
-}
+abbrev pub refusal_of_layers : InstanceFault → Option Refusal
+refusal_of_layers (fault.NotConvex at direction) = Some (refusal.NotConvex at direction)
+refusal_of_layers (fault.TooManyFaces faces) = Some (refusal.TooManyFaces faces)
+refusal_of_layers (fault.Unreached face) = Some (refusal.Unreached face)
+refusal_of_layers (fault.DoesNotClose piece) = Some (refusal.DoesNotClose piece)
+refusal_of_layers (fault.FoldRange face) = Some (refusal.FoldRange face)
+refusal_of_layers (fault.TooManyLines lines) = Some (refusal.TooManyLines lines)
+refusal_of_layers (fault.TooManyPairs pairs) = Some (refusal.TooManyPairs pairs)
+refusal_of_layers fault.Memory = None
 
--- the pattern becomes a version, unless the last number is taken
-abbrev pub committed_answer : State → PatternView → Answer
-committed_answer s pattern =
-    if nat_eq (greatest_of s.journal) greatest_version then refusal_answer s refusal.Full
-    else version_answer (committed s.journal pattern)
+-- there are too many jobs, else the pattern has no layers for this reason
+abbrev pub IsFoldRefusal : State → Refusal → Type 0
+IsFoldRefusal s refusal.TooManyJobs = IsTrue (is_full s.jobs)
+IsFoldRefusal s r = IsFalse (is_full s.jobs) × (f : InstanceFault)
+    × (refusal_of_layers f ≡ Some r) × IsInstanceFault (current_pattern_of s.journal) f
 
-abbrev pub change_answer : State → Result PatternView StoreRefusal → Answer
-change_answer s (Ok pattern) = committed_answer s pattern
-change_answer s (Err refusal) = refusal_answer s (store_refusal refusal)
+-- the next number; the job has the version that is current, and the rules of that pattern's layers
+pub record IsJobOn (s : State) (number version faces pairs : ℕ) (t : State) : Type 0 where
+  pub room : IsFalse (is_full s.jobs)
+  pub number_is : number ≡ length s.jobs.jobs + 1
+  pub version_is : version ≡ s.journal.current
+  pub layers : LayeringView
+  pub layers_are : IsLayersOf (current_pattern_of s.journal) layers
+  pub faces_are : faces ≡ length layers.shape.faces
+  pub pairs_are : pairs ≡ length layers.pairs
+  pub opens : t ≡ record s { jobs = opened_in s.jobs version layers.rules }
 
--- the new sheet with nothing on it
-abbrev pub sheet_answer : State → Result (List Point) ℕ → Answer
-sheet_answer s (Ok corners) = committed_answer s (empty_on corners)
-sheet_answer s (Err corner) = refusal_answer s (refusal.BadSheet corner)
+abbrev pub IsFold : State → Reply → State → Type 0
+IsFold s (reply.Job number version faces pairs) t = IsJobOn s number version faces pairs t
+IsFold s (reply.Refused r) t = IsFoldRefusal s r × (t ≡ s)
+IsFold s r t = ⊥
 
--- how a block that is all added ends
-abbrev pub stop_answer : State → LoadStop → PatternView → Answer
-stop_answer s stop.Ended pattern = committed_answer s pattern
-stop_answer s (stop.Bad number fault) pattern = refusal_answer s (refusal.LoadLine number (cause.Line fault))
-stop_answer s stop.Unended pattern = refusal_answer s refusal.LoadUnended
+-- ---- the other commands about jobs
 
--- a block is refused by its first line that is not added, else by how it ends
-abbrev pub load_answer : State → LoadStop → Result PatternView LoadRefusal → Answer
-load_answer s end (Ok pattern) = stop_answer s end pattern
-load_answer s end (Err refused_line) =
-    refusal_answer s (refusal.LoadLine refused_line.number (cause.Add refused_line.refusal))
+abbrev pub refusal_of_job : ℕ → JobRefusal → Refusal
+refusal_of_job number job.NoSuchJob = refusal.NoSuchJob number
+refusal_of_job number job.Cancelled = refusal.Cancelled number
+refusal_of_job number job.Busy = refusal.Busy number
+refusal_of_job number job.NothingAsked = refusal.NothingAsked number
+refusal_of_job number job.TooManyAsks = refusal.TooManyAsks
 
-abbrev pub redone_answer : State → Option JournalView → Answer
-redone_answer s None = refusal_answer s refusal.NothingToRedo
-redone_answer s (Some j) = version_answer j
+abbrev pub ask_reply : ℕ → Result ⊤ JobRefusal → Reply
+ask_reply number (Ok _) = reply.Asked number
+ask_reply number (Err r) = reply.Refused (refusal_of_job number r)
 
-abbrev pub answer : State → Command → Answer
-answer s (Add kind from to) = change_answer s (add_of (current_pattern_of s.journal) kind from to)
-answer s (Delete from to) = change_answer s (delete_of (current_pattern_of s.journal) from to)
-answer s (Set kind from to) = change_answer s (set_of (current_pattern_of s.journal) kind from to)
-answer s Merge = committed_answer s (merge_of (current_pattern_of s.journal))
-answer s Clear = committed_answer s (clear_of (current_pattern_of s.journal))
-answer s (Sheet corners) = sheet_answer s (sheet_of corners)
-answer s (Load lines end) = load_answer s end (load_of (current_pattern_of s.journal) lines)
-answer s Undo = if nat_eq s.journal.current 0 then refusal_answer s refusal.NothingToUndo
-    else version_answer (undone s.journal)
-answer s Redo = redone_answer s (redone s.journal)
-answer s ListCommand =
-    record { reply = Listed s.journal.current (size_of (current_pattern_of s.journal)); state = s }
-answer s Check = record
-    { reply = Checked s.journal.current (length (faults_of (current_pattern_of s.journal))); state = s }
-answer s (Bad fault) = refusal_answer s (line_refusal fault)
+abbrev pub cancel_reply : ℕ → Result ⊤ JobRefusal → Reply
+cancel_reply number (Ok _) = reply.Cancelled number
+cancel_reply number (Err r) = reply.Refused (refusal_of_job number r)
+
+abbrev pub answer_reply : ℕ → Result FoldAnswer JobRefusal → Reply
+answer_reply number (Ok (Shown version place order)) = reply.Shown number version place order
+answer_reply number (Ok (NoMore version)) = reply.NoMore number version
+answer_reply number (Ok (Paused version)) = reply.Paused number version
+answer_reply number (Ok (NotReady version piece)) = reply.Running number version
+answer_reply number (Err r) = reply.Refused (refusal_of_job number r)
+
+abbrev pub IsAsk : State → ℕ → Reply → State → Type 0
+IsAsk s number r t = (r ≡ ask_reply number (ask_answer s.jobs number))
+    × (t ≡ record s { jobs = after_ask s.jobs number (ask_answer s.jobs number) })
+
+abbrev pub IsShow : State → ℕ → Reply → State → Type 0
+IsShow s number r t = (r ≡ answer_reply number (answer_to s.jobs number))
+    × (t ≡ record s { jobs = after_answer_to s.jobs number (answer_to s.jobs number) })
+
+abbrev pub IsCancel : State → ℕ → Reply → State → Type 0
+IsCancel s number r t = (r ≡ cancel_reply number (cancel_answer s.jobs number))
+    × (t ≡ record s { jobs = after_cancel s.jobs number (cancel_answer s.jobs number) })
+
+-- the asks that are opened from now on have this budget
+abbrev pub IsBudget : State → ℕ → Reply → State → Type 0
+IsBudget s budget r t =
+    (r ≡ reply.Budget budget) × (t ≡ record s { jobs = record s.jobs { budget = budget } })
+
+-- ---- events
+
+-- a wait is answered only where its ask waits for no outcome
+abbrev pub IsReady : State → Command → Type 0
+IsReady s (Wait number) = needed_in s.jobs number ≡ None
+IsReady s command = ⊤
+
+-- the reply to a command, and the state after it
+abbrev pub IsAnswered : State → Command → Reply → State → Type 0
+IsAnswered s Fold r t = IsFold s r t
+IsAnswered s (Another number) r t = IsAsk s number r t
+IsAnswered s (Budget budget) r t = IsBudget s budget r t
+IsAnswered s (Peek number) r t = IsShow s number r t
+IsAnswered s (Wait number) r t = IsShow s number r t
+IsAnswered s (Cancel number) r t = IsCancel s number r t
+IsAnswered s command r t = IsEdit s (answer s.journal command) r t
+
+-- an outcome is accepted exactly where it answers the last task of its piece, and then it is right; any other
+-- changes nothing
+abbrev pub IsTakenIn : State → Outcome → Bool → State → Type 0
+IsTakenIn s x true t =
+    MatchesIn s.jobs x × IsRightPostIn s.jobs x × (t ≡ record s { jobs = posted_in s.jobs x })
+IsTakenIn s x false t = (¬ MatchesIn s.jobs x) × (t ≡ s)

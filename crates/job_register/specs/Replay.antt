@@ -1,5 +1,5 @@
 -- The record that the machine makes of a list of commands.
-use Rattle.std.specs.Prelude.{◌≡◌, ◌↔◌, ℕ, pos, negsuc, List, [], ◌∷◌, map, codes}
+use Rattle.std.specs.Prelude.{◌≡◌, ◌↔◌, ℕ, Bool, true, false, if◌then◌else◌, Option, None, Some, pos, negsuc, List, [], ◌∷◌, ◌++◌, codes}
 use Rattle.std.proofs.Common.{arith}
 use Rattle.surd_number.specs.declared.Surd.{Surd}
 use Rattle.surd_number.specs.Stored.{IsStored}
@@ -13,28 +13,49 @@ use Rattle.crease_store.specs.declared.faults.StoreRefusal.TheVariants.{BadDirec
 use Rattle.crease_store.specs.declared.loading.LoadLine.{LoadLine}
 use Rattle.cp_text.specs.declared.line.LineFault.TheVariants as line_fault
 use Rattle.script_lang.specs.declared.block.LoadStop.TheVariants.{Ended, Unended}
-use Rattle.script_lang.specs.declared.reply.LoadCause.TheVariants as cause
+use Rattle.script_lang.specs.declared.refusal.LoadCause.TheVariants as cause
 use Rattle.script_lang.specs.declared.reply.Reply.{Reply}
 use Rattle.script_lang.specs.declared.reply.Reply.TheVariants.{Version, Listed, Refused}
-use Rattle.script_lang.specs.declared.reply.Refusal.TheVariants as refusal
+use Rattle.script_lang.specs.declared.refusal.Refusal.TheVariants as refusal
 use Rattle.job_register.specs.declared.session.Event.{Event}
-use Rattle.job_register.specs.declared.session.Event.TheVariants.{Made}
-use Rattle.undo_journal.specs.Versions.{greatest_version, greatest_of}
-use Rattle.job_register.specs.Machine.{State, first_state, answer}
-use Rattle.job_register.specs.Legal.{IsLegal, commands_in, reply_in}
+use Rattle.job_register.specs.declared.session.Event.TheVariants.{Made, Posted}
+use Rattle.undo_journal.specs.Versions.{JournalView, greatest_version, greatest_of}
+use Rattle.crease_store.specs.Changed.{clear_of}
+use Rattle.job_register.specs.Edits.{Answer, first_journal, answer, committed_answer, current_pattern_of}
+use Rattle.job_register.specs.Legal.{IsLegal, commands_in, journal_of}
 use Rattle.job_register.specs.Text.{text_of}
 
-abbrev pub record_from : State → List Command → List Event
-record_from s [] = []
-record_from s (command ∷ commands) =
-    Made command (answer s command).reply ∷ record_from (answer s command).state commands
+abbrev pub is_edit_answer : Option Answer → Bool
+is_edit_answer None = false
+is_edit_answer (Some a) = true
 
+-- the command is about the pattern, and not about folding jobs
+abbrev pub is_edit : Command → Bool
+is_edit command = is_edit_answer (answer first_journal command)
+
+abbrev pub event_by : Command → Option Answer → List Event
+event_by command None = []
+event_by command (Some a) = Made command a.reply ∷ []
+
+abbrev pub record_from : JournalView → List Command → List Event
+record_from j [] = []
+record_from j (command ∷ commands) =
+    event_by command (answer j command) ++ record_from (journal_of j (answer j command)) commands
+
+-- the record that the machine makes of commands about the pattern
 abbrev pub record_of : List Command → List Event
-record_of commands = record_from first_state commands
+record_of commands = record_from first_journal commands
 
--- a legal record is the one that the machine makes of its commands
-abbrev pub LegalRecordsAreReplayed : Type 0
-LegalRecordsAreReplayed = (es : List Event) → IsLegal es → es ≡ record_of (commands_in es)
+-- the events in which a command about the pattern is answered
+abbrev pub edits_in : List Event → List Event
+edits_in [] = []
+edits_in (Made command reply ∷ es) = if is_edit command then Made command reply ∷ edits_in es else edits_in es
+edits_in (Posted x accepted ∷ es) = edits_in es
+
+-- whatever folding jobs do meanwhile, the edits of a legal record are those that the machine makes of their commands
+abbrev pub LegalEditsAreReplayed : Type 0
+LegalEditsAreReplayed =
+    (most : ℕ) (es : List Event) → IsLegal most es → edits_in es ≡ record_of (commands_in (edits_in es))
 
 -- ---- rows worked by hand, which the definitions compute
 
@@ -45,9 +66,14 @@ mountain = Add Mountain (whole_point (pos 0) (negsuc 199)) (whole_point (pos 0) 
 abbrev pub valley : Command
 valley = Add Valley (whole_point (pos 0) (negsuc 199)) (whole_point (pos 0) (pos 200))
 
+abbrev pub replies_in : List Event → List Reply
+replies_in [] = []
+replies_in (Made command reply ∷ es) = reply ∷ replies_in es
+replies_in (Posted x accepted ∷ es) = replies_in es
+
 -- the replies to these commands
 abbrev pub replies_to : List Command → List Reply
-replies_to commands = map reply_in (record_of commands)
+replies_to commands = replies_in (record_of commands)
 
 -- undo goes back, redo comes again, and the list is of the current version
 abbrev pub FirstRow : Type 0
@@ -118,8 +144,9 @@ BadRow =
 
 -- a change that is not refused otherwise is refused exactly where the last version number is taken, in any state
 abbrev pub FullRow : Type 0
-FullRow = (s : State)
-    → ((answer s Clear).reply ≡ Refused refusal.Full) ↔ (greatest_of s.journal ≡ greatest_version)
+FullRow = (j : JournalView)
+    → ((committed_answer j (clear_of (current_pattern_of j))).reply ≡ Refused refusal.Full)
+    ↔ (greatest_of j ≡ greatest_version)
 
 pub root_height_is_stored : IsStored (record { a = negsuc 599; b = pos 400; k = 0 })
 root_height_is_stored = (λ y _. omega arith, (omega arith, omega arith, omega arith))

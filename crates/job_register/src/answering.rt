@@ -1,203 +1,40 @@
 //! The answer to one command.
 
-ghost use Rattle.std.specs.Prelude.{◌≡◌, IfOk, OnOk, OnErr, IsTrue};
-ghost use Rattle.std.specs.declared.result.Result.{Result};
-ghost use Rattle.crease_model.specs.View.{PatternView};
-ghost use Rattle.crease_store.specs.declared.faults.StoreRefusal.{StoreRefusal};
-ghost use Rattle.crease_model.specs.NewSheet.{sheet_of};
-ghost use Rattle.crease_model.specs.Rules.{size_of};
-ghost use Rattle.crease_store.specs.Answer.{IsAnswer};
-ghost use Rattle.crease_store.specs.Loading.{load_of};
+ghost use Rattle.std.specs.Prelude.{◌≡◌, IfOk, OnErr, IsTrue};
 ghost use Rattle.script_lang.specs.Script.{meets_condition};
 ghost use Rattle.job_register.specs.Kept.{AreCurrent};
-ghost use Rattle.job_register.specs.Machine.{answer, change_answer, version_answer, current_pattern_of, committed_answer, sheet_answer, load_answer, stop_answer};
+ghost use Rattle.job_register.specs.Machine.{IsReady, IsAnswered};
 
-use crease_model::{Pattern, Sheet, SheetFault};
-use crease_store::{LoadStoreFault, StoreFault, add, clear, delete, load, merge, set_kind};
-use script_lang::{
-    Command, Corners, LoadCause, LoadLines, LoadStop, Refusal, Reply, refusal_of_line,
-    refusal_of_store,
+use crate::editing::{
+    commit_change, count_faults, list, load_block, new_sheet, redo, undo,
 };
+use crate::folding::{another, cancel, fold, set_budget, show};
+use crease_store::{add, clear, delete, merge, set_kind};
+use fold_jobs::Jobs;
+use script_lang::{Command, Reply, refusal_of_line};
 use std::alloc::{AllocError, Global};
-use undo_journal::{Journal, JournalFault};
-use vertex_checks::{VertexFault, check};
+use std::thread::Threads;
+use undo_journal::Journal;
+use vertex_checks::VertexFault;
 
-/// The current version and the size of its pattern.
-fn current_version(journal: &Journal) -> (u32, u32)
-    ensures version { result.0 ≡ journal.now.current }
-    ensures pieces { result.1 ≡ size_of (current_pattern_of journal.now) }
-{
-    (journal.current(), journal.current_pattern().size())
-}
-
-fn version_reply(journal: &Journal) -> Reply
-    ensures { result ≡ (version_answer journal.now).reply }
-{
-    let (version, pieces) = current_version(journal);
-    Reply::Version { version, pieces }
-}
-
-fn commit(journal: &mut Journal, pattern: Pattern) -> Result<Reply, AllocError>
-    ensures ok { IfOk result (λ reply. record { reply = reply; state = record { journal = journal.new } }
-        ≡ committed_answer (record { journal = journal.old }) pattern) }
-    ensures err { OnErr result (journal.new ≡ journal.old) }
-{
-    match journal.commit(pattern) {
-        Ok(_) => Ok(version_reply(journal)),
-        Err(JournalFault::Full) => Ok(Reply::Refused {
-            refusal: Refusal::Full,
-        }),
-        Err(JournalFault::Memory) => Err(AllocError),
-    }
-}
-
-// Commits the pattern of a change, or answers why there is none.
-#[tactic(auto, using(crate::proofs::Told::refusal_told))]
-fn commit_change(
-    journal: &mut Journal,
-    change: Result<Pattern, StoreFault>,
-) -> Result<Reply, AllocError>
-    ensures ok { IfOk result (λ reply. (defined : Result PatternView StoreRefusal) → IsAnswer change defined
-        → record { reply = reply; state = record { journal = journal.new } }
-        ≡ change_answer (record { journal = journal.old }) defined) }
-    ensures err { OnErr result (journal.new ≡ journal.old) }
-{
-    match change {
-        Ok(pattern) => commit(journal, pattern),
-        Err(fault) => match fault.refusal() {
-            Some(refusal) => Ok(Reply::Refused {
-                refusal: refusal_of_store(refusal),
-            }),
-            None => Err(AllocError),
-        },
-    }
-}
-
-fn new_sheet(alloc: Global, journal: &mut Journal, corners: &Corners) -> Result<Reply, AllocError>
-    ensures ok { IfOk result (λ reply. record { reply = reply; state = record { journal = journal.new } }
-        ≡ sheet_answer (record { journal = journal.old }) (sheet_of corners.now)) }
-    ensures err { OnErr result (journal.new ≡ journal.old) }
-{
-    match Sheet::new(alloc, corners.as_slice()) {
-        Ok(sheet) => commit(journal, Pattern::empty(sheet)),
-        Err(SheetFault::BadSheet { corner }) => Ok(Reply::Refused {
-            refusal: Refusal::BadSheet { corner },
-        }),
-        Err(SheetFault::Memory) => Err(AllocError),
-    }
-}
-
-// Commits a block that is all added, by how it ends.
-fn stop(journal: &mut Journal, pattern: Pattern, end: LoadStop) -> Result<Reply, AllocError>
-    ensures ok { IfOk result (λ reply. record { reply = reply; state = record { journal = journal.new } }
-        ≡ stop_answer (record { journal = journal.old }) end pattern) }
-    ensures err { OnErr result (journal.new ≡ journal.old) }
-{
-    match end {
-        LoadStop::Ended => commit(journal, pattern),
-        LoadStop::Bad { number, fault } => Ok(Reply::Refused {
-            refusal: Refusal::LoadLine {
-                number,
-                cause: LoadCause::Line { fault },
-            },
-        }),
-        LoadStop::Unended => Ok(Reply::Refused {
-            refusal: Refusal::LoadUnended,
-        }),
-    }
-}
-
-#[tactic(auto, using(crate::proofs::Told::load_refusal_told))]
-fn load_block(
+/// Answers a command. Without memory the journal and the jobs stay as they were. `faults` are those of the current
+/// version where the command asks for them, else none.
+#[tactic(auto, using(crate::proofs::Told::edited, crate::proofs::Told::edit_told))]
+pub(crate) fn answer_command<R: Threads + Sync>(
+    rt: &R,
     alloc: Global,
     journal: &mut Journal,
-    lines: &LoadLines,
-    end: LoadStop,
-) -> Result<Reply, AllocError>
-    ensures ok { IfOk result (λ reply. record { reply = reply; state = record { journal = journal.new } }
-        ≡ load_answer (record { journal = journal.old }) end
-        (load_of (current_pattern_of journal.old) lines.now)) }
-    ensures err { OnErr result (journal.new ≡ journal.old) }
-{
-    match load(alloc, journal.current_pattern(), lines.as_slice()) {
-        Ok(pattern) => stop(journal, pattern, end),
-        Err(LoadStoreFault { number, fault }) => match fault.refusal() {
-            Some(refusal) => Ok(Reply::Refused {
-                refusal: Refusal::LoadLine {
-                    number,
-                    cause: LoadCause::Add { refusal },
-                },
-            }),
-            None => Err(AllocError),
-        },
-    }
-}
-
-fn undo(journal: &mut Journal) -> Reply
-    ensures { record { reply = result; state = record { journal = journal.new } }
-        ≡ answer (record { journal = journal.old }) Command.Undo }
-{
-    match journal.undo() {
-        Ok(_) => version_reply(journal),
-        Err(_) => Reply::Refused {
-            refusal: Refusal::NothingToUndo,
-        },
-    }
-}
-
-fn redo(journal: &mut Journal) -> Reply
-    ensures { record { reply = result; state = record { journal = journal.new } }
-        ≡ answer (record { journal = journal.old }) Command.Redo }
-{
-    match journal.redo() {
-        Ok(_) => version_reply(journal),
-        Err(_) => Reply::Refused {
-            refusal: Refusal::NothingToRedo,
-        },
-    }
-}
-
-// Counts the faults of the current version, and keeps them for the text of the reply.
-fn count_faults(
-    alloc: Global,
-    journal: &Journal,
-    faults: &mut Option<Vec<VertexFault>>,
-) -> Result<Reply, AllocError>
-    ensures ok { IfOk result (λ reply. record { reply = reply; state = record { journal = journal.now } }
-        ≡ answer (record { journal = journal.now }) Command.Check) }
-    ensures current { OnOk result (AreCurrent faults.new journal.now) }
-    ensures err { OnErr result (faults.new ≡ faults.old) }
-{
-    let found = check(alloc, journal.current_pattern())?;
-    let count = found.as_slice().len() as u32;
-    *faults = Some(found);
-    Ok(Reply::Checked {
-        version: journal.current(),
-        faults: count,
-    })
-}
-
-fn list(journal: &Journal) -> Reply
-    ensures { record { reply = result; state = record { journal = journal.now } }
-        ≡ answer (record { journal = journal.now }) Command.List }
-{
-    let (version, pieces) = current_version(journal);
-    Reply::Listed { version, pieces }
-}
-
-/// Answers a command. Without memory the journal stays as it was. `faults` are those of the current version where
-/// the command asks for them, else none.
-pub fn answer_command(
-    alloc: Global,
-    journal: &mut Journal,
+    jobs: &mut Jobs,
     faults: &mut Option<Vec<VertexFault>>,
     command: &Command,
 ) -> Result<Reply, AllocError>
-    requires { IsTrue (meets_condition command.now) }
+    requires condition { IsTrue (meets_condition command.now) }
+    requires ready { IsReady (record { journal = journal.old; jobs = jobs.old }) command.now }
     ensures current { AreCurrent faults.new journal.new }
-    ensures ok { IfOk result (λ reply. record { reply = reply; state = record { journal = journal.new } }
-        ≡ answer (record { journal = journal.old }) command.now) }
-    ensures err { OnErr result (journal.new ≡ journal.old) }
+    ensures ok { IfOk result (λ reply. IsAnswered (record { journal = journal.old; jobs = jobs.old })
+        command.now reply (record { journal = journal.new; jobs = jobs.new })) }
+    ensures err_journal { OnErr result (journal.new ≡ journal.old) }
+    ensures err_jobs { OnErr result (jobs.new ≡ jobs.old) }
 {
     *faults = None;
     let pattern = journal.current_pattern();
@@ -228,6 +65,11 @@ pub fn answer_command(
         Command::Redo => Ok(redo(journal)),
         Command::List => Ok(list(journal)),
         Command::Check => count_faults(alloc, journal, faults),
+        Command::Fold => fold(rt, alloc, journal, jobs),
+        Command::Another { job } => Ok(another(jobs, *job)),
+        Command::Budget { budget } => Ok(set_budget(jobs, *budget)),
+        Command::Peek { job } | Command::Wait { job } => Ok(show(jobs, *job)),
+        Command::Cancel { job } => Ok(cancel(jobs, *job)),
         Command::Bad { fault } => Ok(Reply::Refused {
             refusal: refusal_of_line(*fault),
         }),

@@ -1,12 +1,12 @@
 //! Laws of records.
 
 ghost use Rattle.job_register.specs.RecordVersions.{VersionsStay, UndoBringsBack, RedoGoesBack};
-ghost use Rattle.job_register.specs.Replay.{LegalRecordsAreReplayed, FirstRow, RedoRow, RefusalRow, MergingRow, SheetRow, LoadRow, DeleteRow, BadRow, FullRow, RisingRow, RisingText};
+ghost use Rattle.job_register.specs.Replay.{LegalEditsAreReplayed, FirstRow, RedoRow, RefusalRow, MergingRow, SheetRow, LoadRow, DeleteRow, BadRow, FullRow, RisingRow, RisingText};
 
-/// A legal record is the one that the machine makes of its commands: no other replies are.
-#[tactic(auto, using(crate::proofs::Replaying::legal_records_are_replayed))]
-pub fn legal_records_are_replayed()
-    ensures { LegalRecordsAreReplayed }
+/// The commands about the pattern of a legal record have the machine's replies, whatever folding jobs do meanwhile.
+#[tactic(auto, using(crate::proofs::Replaying::legal_edits_are_replayed))]
+pub fn legal_edits_are_replayed()
+    ensures { LegalEditsAreReplayed }
 {}
 
 /// The pattern of a version number is the same in each longer record.

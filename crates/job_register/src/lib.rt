@@ -2,10 +2,9 @@
 #![tactic(auto)]
 
 mod answering;
-mod laws;
+mod editing;
+mod folding;
+pub mod laws;
 mod session;
 
-pub use laws::{
-    legal_records_are_replayed, redo_goes_back, rows_are_computed, undo_brings_back, versions_stay,
-};
 pub use session::{Event, Record, Session};

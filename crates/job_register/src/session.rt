@@ -1,32 +1,47 @@
 //! The session and its record.
 
-ghost use Rattle.std.specs.Prelude.{◌≡◌, ◌++◌, ◌∷◌, [], ◌||◌, IfOk, IsTrue, OnOk, OnErr};
+ghost use Rattle.std.specs.Prelude.{◌≡◌, ◌++◌, ◌∷◌, [], ◌||◌, IfOk, IfSome, IsSome, IsTrue, OnOk, OnErr};
 ghost use Rattle.script_lang.specs.Script.{meets_condition};
-ghost use Rattle.job_register.specs.Legal.{is_refusal};
+ghost use Rattle.script_lang.specs.declared.reply.Reply.{Reply};
+ghost use Rattle.job_register.specs.Legal.{is_refusal, is_accepted};
 
 use crate::answering::answer_command;
 use cp_text::{all_or_nothing, write_pattern};
 use crease_model::{Pattern, Sheet};
+use fold_jobs::Jobs;
 use script_lang::{Command, Reply, write_head};
 use std::alloc::{AllocError, Global};
 use std::marker::Model;
+use std::thread::Threads;
 use undo_journal::Journal;
 use vertex_checks::{VertexFault, check, write_faults};
+use worker_split::{Outcome, Taken, Task};
 
 /// What happened in a session.
 #[derive(Drop)]
 pub enum Event {
     /// A command was answered.
     Made { command: Command, reply: Reply },
+    /// An outcome of a task was posted.
+    Posted { outcome: Outcome, accepted: bool },
 }
 
 // Whether some reply up to this one was a refusal.
-fn refused_after(before: bool, reply: Reply) -> bool
-    ensures { result ≡ (before || is_refusal reply) }
+fn refused_after(before: bool, reply: &Reply) -> bool
+    ensures { result ≡ (before || is_refusal reply.now) }
 {
     match reply {
         Reply::Refused { .. } => true,
         _ => before,
+    }
+}
+
+fn was_accepted(taken: &Taken) -> bool
+    ensures { result ≡ is_accepted taken.now }
+{
+    match taken {
+        Taken::Accepted => true,
+        Taken::Stranger { .. } => false,
     }
 }
 
@@ -55,10 +70,11 @@ impl Record {
     }
 }
 
-/// A session, seen as its events. Its journal is the one that they lead to.
+/// A session: the versions of a pattern, the folding jobs, and the record of all that happened.
 #[derive(Drop)]
 pub struct Session {
     journal: Journal,
+    jobs: Jobs,
     record: Record,
     refused: bool,
     // of the current version, after a command that asked for them
@@ -66,73 +82,156 @@ pub struct Session {
 }
 
 impl Model for Session {
-    ghost use Rattle.std.specs.Prelude.{◌≡◌, List};
-    ghost use Rattle.job_register.specs.declared.session.Event.{Event};
-
-    ghost Value = { List Event };
-
-    ghost use Rattle.job_register.specs.View.{events_of};
-    ghost use Rattle.job_register.specs.Machine.{State};
-    ghost use Rattle.job_register.specs.Legal.{IsLegal, state_after};
+    ghost use Rattle.job_register.specs.View.{SessionView, events_of};
     ghost use Rattle.job_register.specs.Kept.{IsSession};
 
-    ghost view = { λ s. events_of s.record };
+    ghost Value = { SessionView };
 
-    ghost invariant = { λ s. IsSession s.journal s.refused s.faults (events_of s.record) };
+    ghost view = { λ s. record {
+      events = events_of s.record;
+      state = record { journal = s.journal; jobs = s.jobs };
+    } };
+
+    ghost invariant = { λ s.
+        IsSession (record { journal = s.journal; jobs = s.jobs }) s.refused s.faults (events_of s.record) };
 }
 
 impl Session {
-    ghost use Rattle.job_register.specs.View.{events_of};
-    ghost use Rattle.job_register.specs.Machine.{answer};
-    ghost use Rattle.job_register.specs.Legal.{IsLegal, state_after, commands_in, has_refusal};
+    ghost use Rattle.worker_split.specs.Tasks.{task_of, IsRightOutcome};
+    ghost use Rattle.worker_split.specs.Settled.{settled};
+    ghost use Rattle.worker_split.specs.declared.outcome.Outcome.{Outcome};
+    ghost use Rattle.fold_jobs.specs.Machine.{IsRightWhereLive, IsPosted, MatchesIn, task_in, needed_in};
+    ghost use Rattle.fold_jobs.specs.Waiting.{waiting_in};
     ghost use Rattle.undo_journal.specs.Versions.{pattern_at};
+    ghost use Rattle.job_register.specs.View.{events_of};
+    ghost use Rattle.job_register.specs.Machine.{first_state, IsReady, IsAnswered};
+    ghost use Rattle.job_register.specs.Legal.{IsLegal, journal_after, commands_in, has_refusal};
     ghost use Rattle.job_register.specs.RecordVersions.{KeepsVersions};
-    ghost use Rattle.job_register.specs.Text.{text_of, reply_text, body_text, listing_text, checks_text};
+    ghost use Rattle.job_register.specs.Text.{text_of, last_text, text_at, reply_text, body_text, listing_text, checks_text};
 
-    /// A session over version 0, the square sheet with nothing on it.
-    #[tactic(auto, unfolding(crate::specs::Machine::first_state))]
-    pub fn open(alloc: Global) -> Result<Session, AllocError>
-        ensures { IfOk result (λ session. session ≡ []) }
+    /// A session over version 0, the square sheet with nothing on it. A job is searched in at most `most` pieces.
+    #[tactic(auto, unfolding(crate::specs::Edits::first_journal))]
+    pub fn open(alloc: Global, most: u32) -> Result<Session, AllocError>
+        requires { most ≡ 1 }
+        ensures { IfOk result (λ session. session ≡ record { events = []; state = first_state most }) }
     {
         let journal = Journal::open(alloc, Pattern::empty(Sheet::square(alloc)?))?;
         Ok(Session {
             journal,
+            jobs: Jobs::new(alloc, most),
             record: Record::new(alloc),
             refused: false,
             faults: None,
         })
     }
 
-    /// Answers a command, and adds it with its reply to the record. Each version keeps its pattern. Without memory the
-    /// session stays as it was.
-    pub fn step(&mut self, alloc: Global, command: Command) -> Result<Reply, AllocError>
-        requires { IsTrue (meets_condition command) }
-        ensures reply { IfOk result (λ reply. reply ≡ (answer (state_after self.old) command).reply) }
-        ensures events { IfOk result (λ reply. self.new ≡ self.old ++ Event.Made command reply ∷ []) }
-        ensures legal { IsLegal self.new }
-        ensures text { IfOk result
-            (λ reply. text_of self.new ≡ text_of self.old ++ reply_text (state_after self.new) reply) }
-        ensures commands { OnOk result (commands_in self.new ≡ commands_in self.old ++ command ∷ []) }
-        ensures refusals { IfOk result
-            (λ reply. has_refusal self.new ≡ (has_refusal self.old || is_refusal reply)) }
-        ensures versions { KeepsVersions self.old self.new }
+    /// Answers a command, and adds it with its reply to the record; `write_last` writes the reply. Each version keeps
+    /// its pattern. Without memory the session stays as it was.
+    pub fn step<R: Threads + Sync>(
+        &mut self,
+        rt: &R,
+        alloc: Global,
+        command: Command,
+    ) -> Result<(), AllocError>
+        requires condition { IsTrue (meets_condition command) }
+        requires ready { IsReady self.old.state command }
+        ensures answer { OnOk result ((reply : Reply)
+            × (self.new.events ≡ self.old.events ++ Event.Made command reply ∷ [])
+            × IsAnswered self.old.state command reply self.new.state) }
+        ensures legal { IsLegal self.new.state.jobs.most self.new.events }
+        ensures most { self.new.state.jobs.most ≡ self.old.state.jobs.most }
+        ensures text { OnOk result
+            (text_of self.new.events ≡ text_of self.old.events ++ last_text self.new.events) }
+        ensures commands { OnOk result
+            (commands_in self.new.events ≡ commands_in self.old.events ++ command ∷ []) }
+        ensures versions { KeepsVersions self.old.events self.new.events }
         ensures err { OnErr result (self.new ≡ self.old) }
     {
         self.record.list.reserve(1)?;
-        let reply = answer_command(alloc, &mut self.journal, &mut self.faults, &command)?;
+        let reply = answer_command(
+            rt,
+            alloc,
+            &mut self.journal,
+            &mut self.jobs,
+            &mut self.faults,
+            &command,
+        )?;
+        self.refused = refused_after(self.refused, &reply);
         self.record
             .list
             .push(Event::Made { command, reply })
             .unwrap();
-        self.refused = refused_after(self.refused, reply);
-        Ok(reply)
+        Ok(())
     }
 
-    /// Appends the whole text of a reply: its first line, for a listing the lines of the listed version, and for local
-    /// checks a line for each fault. Without memory the bytes stay as they were.
-    pub fn write_text(&self, out: &mut Vec<u8>, reply: &Reply) -> Result<(), AllocError>
+    /// Takes an outcome that answers the last task of a piece of a job that was not cancelled, and adds it to the record.
+    /// Any other changes nothing but the record, and comes back. The record keeps a copy, whose lists have no room to
+    /// grow. Without memory the session stays as it was.
+    pub fn post(&mut self, outcome: Outcome) -> Result<Taken, AllocError>
+        requires { IsRightWhereLive self.old.state.jobs outcome }
+        ensures posted { IfOk result (λ taken.
+            IsPosted self.old.state.jobs (settled outcome) taken self.new.state.jobs) }
+        ensures event { IfOk result (λ taken. self.new.events
+            ≡ self.old.events ++ Event.Posted (settled outcome) (is_accepted taken) ∷ []) }
+        ensures journal { self.new.state.journal ≡ self.old.state.journal }
+        ensures fewer { IfOk result (λ taken. taken ≡ Taken.Accepted
+            → waiting_in self.old.state.jobs outcome.job ≡ waiting_in self.new.state.jobs outcome.job + 1) }
+        ensures legal { IsLegal self.new.state.jobs.most self.new.events }
+        ensures most { self.new.state.jobs.most ≡ self.old.state.jobs.most }
+        ensures text { text_of self.new.events ≡ text_of self.old.events }
+        ensures commands { commands_in self.new.events ≡ commands_in self.old.events }
+        ensures versions { KeepsVersions self.old.events self.new.events }
+        ensures err { OnErr result (self.new ≡ self.old) }
+    {
+        self.record.list.reserve(1)?;
+        let kept = outcome.copy()?;
+        let taken = self.jobs.post(kept.copy()?);
+        let accepted = was_accepted(&taken);
+        self.record
+            .list
+            .push(Event::Posted {
+                outcome: kept,
+                accepted,
+            })
+            .unwrap();
+        Ok(taken)
+    }
+
+    /// What a piece of a job has still to answer in the open ask, if the job is there and was not cancelled.
+    pub fn task(&self, job: u32, piece: u32) -> Result<Option<Task>, AllocError>
+        ensures task { IfOk result (λ task. option_map task_of task ≡ task_in self.now.state.jobs job piece) }
+        ensures right { IfOk result (λ task. IfSome task (λ t. (x : Outcome) → IsRightOutcome (task_of t) x
+            → IsRightWhereLive self.now.state.jobs x)) }
+        ensures answers { IfOk result (λ task. IfSome task (λ t. (x : Outcome) → IsRightOutcome (task_of t) x
+            → MatchesIn self.now.state.jobs x)) }
+    {
+        self.jobs.task(job, piece)
+    }
+
+    /// The piece whose outcome the open ask of a job waits for, if the job is there and was not cancelled.
+    pub fn needs(&self, job: u32) -> Option<u32>
+        ensures needed { result ≡ needed_in self.now.state.jobs job }
+        ensures task { IfSome result (λ piece. IsSome (task_in self.now.state.jobs job piece)) }
+    {
+        self.jobs.needs(job)
+    }
+
+    /// Appends the whole text of the last reply: its first line, for a listing the lines of the listed version, and for
+    /// local checks a line for each fault. An outcome that was posted has none. Without memory the bytes stay as they
+    /// were.
+    pub fn write_last(&self, out: &mut Vec<u8>) -> Result<(), AllocError>
+        ensures ok { OnOk result (out.new.items ≡ out.old.items ++ last_text self.now.events) }
+        ensures err { OnErr result (out.new.items ≡ out.old.items) }
+    {
+        match self.record.list.as_slice().last() {
+            Some(Event::Made { reply, .. }) => self.write_reply(out, reply),
+            Some(Event::Posted { .. }) | None => Ok(()),
+        }
+    }
+
+    fn write_reply(&self, out: &mut Vec<u8>, reply: &Reply) -> Result<(), AllocError>
         ensures ok { OnOk result
-            (out.new.items ≡ out.old.items ++ reply_text (state_after self.now) reply.now) }
+            (out.new.items ≡ out.old.items ++ reply_text (journal_after self.now.events) reply.now) }
         ensures err { OnErr result (out.new.items ≡ out.old.items) }
     {
         let before = out.len();
@@ -143,20 +242,20 @@ impl Session {
 
     fn write_body(&self, out: &mut Vec<u8>, reply: &Reply) -> Result<(), AllocError>
         ensures ok { OnOk result
-            (out.new.items ≡ out.old.items ++ body_text (state_after self.now) reply.now) }
+            (out.new.items ≡ out.old.items ++ body_text (journal_after self.now.events) reply.now) }
         ensures err { OnErr result (out.new.items ≡ out.old.items) }
     {
         match *reply {
             Reply::Listed { version, .. } => self.write_listing(out, version),
             Reply::Checked { version, .. } => self.write_checks(out, version),
-            Reply::Version { .. } | Reply::Refused { .. } => Ok(()),
+            _ => Ok(()),
         }
     }
 
     fn write_listing(&self, out: &mut Vec<u8>, version: u32) -> Result<(), AllocError>
         ensures ok { OnOk result
             (out.new.items ≡ out.old.items
-            ++ listing_text (pattern_at (state_after self.now).journal version)) }
+            ++ listing_text (pattern_at (journal_after self.now.events) version)) }
         ensures err { OnErr result (out.new.items ≡ out.old.items) }
     {
         match self.journal.get(version) {
@@ -168,7 +267,7 @@ impl Session {
     fn write_checks(&self, out: &mut Vec<u8>, version: u32) -> Result<(), AllocError>
         ensures ok { OnOk result
             (out.new.items ≡ out.old.items
-            ++ checks_text (pattern_at (state_after self.now).journal version)) }
+            ++ checks_text (pattern_at (journal_after self.now.events) version)) }
         ensures err { OnErr result (out.new.items ≡ out.old.items) }
     {
         match (&self.faults, self.journal.get(version)) {
@@ -185,23 +284,23 @@ impl Session {
 
     /// Whether some reply so far was a refusal.
     pub fn has_refusal(&self) -> bool
-        ensures { result ≡ has_refusal self.now }
+        ensures { result ≡ has_refusal self.now.events }
     {
         self.refused
     }
 
     /// The record so far.
     pub fn events(&self) -> &Record
-        ensures events { events_of result.now ≡ self.now }
-        ensures legal { IsLegal self.now }
+        ensures events { events_of result.now ≡ self.now.events }
+        ensures legal { IsLegal self.now.state.jobs.most self.now.events }
     {
         &self.record
     }
 
     /// The whole record.
     pub fn finish(self) -> Record
-        ensures events { events_of result ≡ self }
-        ensures legal { IsLegal self }
+        ensures events { events_of result ≡ self.events }
+        ensures legal { IsLegal self.state.jobs.most self.events }
     {
         self.record
     }

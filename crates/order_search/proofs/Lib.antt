@@ -3,3 +3,4 @@ pub mod Walks
 pub mod Moves
 pub mod Measure
 pub mod Within
+pub mod OrderedLists

@@ -3,3 +3,4 @@ pub mod ListLaws
 pub mod Search
 pub mod Invariant
 pub mod Walking
+pub mod OrderedLists

@@ -2,6 +2,7 @@
 //! on anywhere.
 #![tactic(auto)]
 
+pub mod laws;
 mod search;
 mod step;
 #[cfg(test)]

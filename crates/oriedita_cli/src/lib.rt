@@ -4,6 +4,7 @@
 
 mod programs;
 mod running;
+mod searching;
 mod serving;
 
 pub use programs::{program, run_arguments};

@@ -18,6 +18,7 @@ use std::env::Args;
 use std::io::ErrorKind;
 use std::process::ExitCode;
 use std::rt::Env;
+use std::thread::Threads;
 use std::{env, io};
 
 fn words_after_name(alloc: Global, mut arguments: Args) -> Result<Vec<String>, AllocError>
@@ -49,14 +50,15 @@ fn words_of(alloc: Global, arguments: io::Result<Args>) -> Result<Vec<String>, A
 
 /// [`run`] on the arguments that a process has, its name first, as `env::args` tells them. Words are refused, also
 /// those that can't be told because one is not UTF-8.
-pub fn run_arguments<S: Source, K: Sink>(
+pub fn run_arguments<R: Threads + Sync, S: Source, K: Sink>(
+    rt: &R,
     alloc: Global,
     arguments: io::Result<Args>,
     script: &mut S,
     out: &mut K,
 ) -> Ended
     // The record clause.
-    ensures legal { IsLegal (events_of result.events) }
+    ensures legal { IsLegal 1 (events_of result.events) }
 
     // The input clause.
     ensures input { (bytes : List ℕ) × Consumes (S.left script.old) (S.left script.new) bytes
@@ -80,18 +82,18 @@ pub fn run_arguments<S: Source, K: Sink>(
     ensures sink_faults_stay { K.faults out.old ≤ K.faults out.new }
 {
     match words_of(alloc, arguments) {
-        Ok(words) => run(alloc, words.as_slice(), script, out),
+        Ok(words) => run(rt, alloc, words.as_slice(), script, out),
         Err(_) => ended_without(alloc, NO_MEMORY),
     }
 }
 
 /// The program: [`run_arguments`] on the arguments, the standard input and the standard output of a runtime. The answer
 /// is the status of the run.
-pub fn program<R: Env + Input + Print + Alloc<A = Global>>(rt: &R) -> ExitCode
+pub fn program<R: Env + Input + Print + Threads + Sync + Alloc<A = Global>>(rt: &R) -> ExitCode
     ensures { exit_status result ≤ 6 }
 {
     let mut script = StdinSource::new(rt.reader());
     let mut out = StdoutSink::new(io::writer(rt));
-    let ended = run_arguments(rt.alloc(), env::args(rt), &mut script, &mut out);
+    let ended = run_arguments(rt, rt.alloc(), env::args(rt), &mut script, &mut out);
     ExitCode::from(ended.status)
 }

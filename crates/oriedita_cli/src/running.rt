@@ -14,6 +14,7 @@ use job_register::{Record, Session};
 use oriedita_io::{Failed, Input, InputEnd, LONGEST_INPUT, Sink, Source, read_all};
 use script_lang::{Commands, read_script};
 use std::alloc::{AllocError, Global};
+use std::thread::Threads;
 
 /// The exit status of a run, and its record.
 #[derive(Drop)]
@@ -50,10 +51,10 @@ pub(crate) fn ended_without(alloc: Global, status: u8) -> Ended
 
 // The end of a run whose commands were all answered, and their replies written.
 fn finish<K: Sink>(session: Session, out: &mut K) -> Ended
-    ensures events { events_of result.events ≡ session }
-    ensures legal { IsLegal session }
+    ensures events { events_of result.events ≡ session.events }
+    ensures legal { IsLegal session.state.jobs.most session.events }
     ensures bytes { Keeps (K.taken out.old) (K.taken out.new) }
-    ensures status { (result.status ≡ ended_status session) ⊎ (result.status ≡ WRITE_FAILED) }
+    ensures status { (result.status ≡ ended_status session.events) ⊎ (result.status ≡ WRITE_FAILED) }
     ensures finished { result.status < 2 → Tells (K.finished out.new) true }
     ensures cause { result.status ≡ WRITE_FAILED → Rose (K.faults out.old) (K.faults out.new) }
     ensures faults_stay { K.faults out.old ≤ K.faults out.new }
@@ -76,8 +77,10 @@ fn finish<K: Sink>(session: Session, out: &mut K) -> Ended
 }
 
 // Answers the commands in a new session, and writes the replies.
-fn run_commands<K: Sink>(alloc: Global, commands: Commands, out: &mut K) -> Ended
-    ensures legal { IsLegal (events_of result.events) }
+fn run_commands<R: Threads + Sync, K: Sink>(
+    rt: &R,
+    alloc: Global, commands: Commands, out: &mut K) -> Ended
+    ensures legal { IsLegal 1 (events_of result.events) }
     ensures input { IsAnswered result.status (events_of result.events) commands }
     ensures output { IsOutput result.status (events_of result.events) (K.taken out.old) (K.taken out.new)
         (K.finished out.new) }
@@ -86,10 +89,10 @@ fn run_commands<K: Sink>(alloc: Global, commands: Commands, out: &mut K) -> Ende
     ensures cause { result.status ≡ WRITE_FAILED → Rose (K.faults out.old) (K.faults out.new) }
     ensures faults_stay { K.faults out.old ≤ K.faults out.new }
 {
-    let Ok(mut session) = Session::open(alloc) else {
+    let Ok(mut session) = Session::open(alloc, 1) else {
         return ended_without(alloc, NO_MEMORY);
     };
-    match serve_all(alloc, &mut session, commands.into_vec(), out) {
+    match serve_all(rt, alloc, &mut session, commands.into_vec(), out) {
         Ok(()) => finish(session, out),
         Err(Stop::Write) => Ended {
             status: WRITE_FAILED,
@@ -117,9 +120,12 @@ fn run_nothing<K: Sink>(alloc: Global, out: &mut K) -> Ended
     }
 }
 
-fn run_bytes<K: Sink>(alloc: Global, bytes: &[u8], out: &mut K) -> Ended
+fn run_bytes<R: Threads + Sync, K: Sink>(
+    rt: &R,
+    alloc: Global,
+    bytes: &[u8], out: &mut K) -> Ended
     requires { length bytes.now ≤ script_limit }
-    ensures legal { IsLegal (events_of result.events) }
+    ensures legal { IsLegal 1 (events_of result.events) }
     ensures input { IsAnswered result.status (events_of result.events) (commands_of bytes.now) }
     ensures output { IsOutput result.status (events_of result.events) (K.taken out.old) (K.taken out.new)
         (K.finished out.new) }
@@ -129,14 +135,17 @@ fn run_bytes<K: Sink>(alloc: Global, bytes: &[u8], out: &mut K) -> Ended
     ensures faults_stay { K.faults out.old ≤ K.faults out.new }
 {
     match read_script(alloc, bytes) {
-        Ok(commands) => run_commands(alloc, commands, out),
+        Ok(commands) => run_commands(rt, alloc, commands, out),
         Err(_) => ended_without(alloc, NO_MEMORY),
     }
 }
 
-fn run_input<K: Sink>(alloc: Global, input: &Input, out: &mut K) -> Ended
+fn run_input<R: Threads + Sync, K: Sink>(
+    rt: &R,
+    alloc: Global,
+    input: &Input, out: &mut K) -> Ended
     requires { (input.now.end ≡ InputEnd.More) ↔ (script_limit < length input.now.bytes.items) }
-    ensures legal { IsLegal (events_of result.events) }
+    ensures legal { IsLegal 1 (events_of result.events) }
     ensures input { IsInput result.status (events_of result.events) input.now.bytes.items }
     ensures ended { result.status < 2 → input.now.end ≡ InputEnd.Ended }
     ensures failed { result.status ≡ READ_FAILED → input.now.end ≡ InputEnd.Failed }
@@ -149,7 +158,7 @@ fn run_input<K: Sink>(alloc: Global, input: &Input, out: &mut K) -> Ended
     ensures faults_stay { K.faults out.old ≤ K.faults out.new }
 {
     match input.end {
-        InputEnd::Ended => run_bytes(alloc, input.bytes.as_slice(), out),
+        InputEnd::Ended => run_bytes(rt, alloc, input.bytes.as_slice(), out),
         InputEnd::Failed => run_nothing(alloc, out),
         InputEnd::More => ended_without(alloc, TOO_LONG),
     }
@@ -157,14 +166,15 @@ fn run_input<K: Sink>(alloc: Global, input: &Input, out: &mut K) -> Ended
 
 /// Reads the whole script, answers its commands one after another and writes the text of each reply; then finishes the
 /// output. The status says how it ended, and the record what was answered.
-pub fn run<S: Source, K: Sink>(
+pub fn run<R: Threads + Sync, S: Source, K: Sink>(
+    rt: &R,
     alloc: Global,
     words: &[String],
     script: &mut S,
     out: &mut K,
 ) -> Ended
     // The record clause.
-    ensures legal { IsLegal (events_of result.events) }
+    ensures legal { IsLegal 1 (events_of result.events) }
 
     // The input clause.
     ensures input { (bytes : List ℕ) × Consumes (S.left script.old) (S.left script.new) bytes
@@ -189,7 +199,7 @@ pub fn run<S: Source, K: Sink>(
         return ended_without(alloc, BAD_WORDS);
     }
     match read_all(alloc, script, LONGEST_INPUT) {
-        Ok(input) => run_input(alloc, &input, out),
+        Ok(input) => run_input(rt, alloc, &input, out),
         Err(_) => ended_without(alloc, NO_MEMORY),
     }
 }

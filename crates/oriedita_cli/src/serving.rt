@@ -6,10 +6,12 @@ ghost use Rattle.script_lang.specs.Script.{meets_condition};
 ghost use Rattle.oriedita_io.specs.Faults.{Rose};
 ghost use Rattle.oriedita_cli.specs.Serving.{Serves, StopsIn};
 
+use crate::searching::prepare;
 use job_register::Session;
 use oriedita_io::{Failed, Sink, write_all};
 use script_lang::Command;
 use std::alloc::{AllocError, Global};
+use std::thread::Threads;
 
 /// Why no more commands are answered.
 #[derive(Clone, Copy, Debug, PartialEq, Eq)]
@@ -20,8 +22,10 @@ pub enum Stop {
     Memory,
 }
 
-/// Answers one command and writes the text of the reply, which `text` holds meanwhile.
-pub fn serve<K: Sink>(
+/// Answers one command and writes the text of the reply, which `text` holds meanwhile. Before a wait it searches what the
+/// ask waits for.
+pub fn serve<R: Threads + Sync, K: Sink>(
+    rt: &R,
     alloc: Global,
     session: &mut Session,
     text: &mut Vec<u8>,
@@ -30,16 +34,20 @@ pub fn serve<K: Sink>(
 ) -> Result<(), Stop>
     requires { IsTrue (meets_condition command) }
     ensures serves { MatchResult result
-        (λ _. Serves session.old session.new (K.taken out.old) (K.taken out.new) (command ∷ []))
-        (λ _. StopsIn session.old session.new (K.taken out.old) (K.taken out.new) (command ∷ [])) }
+        (λ _. Serves session.old.events session.new.events (K.taken out.old) (K.taken out.new) (command ∷ []))
+        (λ _. StopsIn session.old.events session.new.events (K.taken out.old) (K.taken out.new) (command ∷ [])) }
+    ensures most { session.new.state.jobs.most ≡ session.old.state.jobs.most }
     ensures cause { result ≡ Err Stop.Write → Rose (K.faults out.old) (K.faults out.new) }
     ensures faults_stay { K.faults out.old ≤ K.faults out.new }
 {
-    let Ok(reply) = session.step(alloc, command) else {
+    if prepare(alloc, session, &command).is_err() {
         return Err(Stop::Memory);
-    };
+    }
+    if session.step(rt, alloc, command).is_err() {
+        return Err(Stop::Memory);
+    }
     text.clear();
-    if session.write_text(text, &reply).is_err() {
+    if session.write_last(text).is_err() {
         return Err(Stop::Memory);
     }
     match write_all(out, text.as_slice()) {
@@ -49,7 +57,8 @@ pub fn serve<K: Sink>(
 }
 
 /// Answers the commands one after another, and writes the text of each reply.
-pub fn serve_all<K: Sink>(
+pub fn serve_all<R: Threads + Sync, K: Sink>(
+    rt: &R,
     alloc: Global,
     session: &mut Session,
     commands: Vec<Command>,
@@ -57,14 +66,15 @@ pub fn serve_all<K: Sink>(
 ) -> Result<(), Stop>
     requires { IsTrue (list_all meets_condition commands.items) }
     ensures serves { MatchResult result
-        (λ _. Serves session.old session.new (K.taken out.old) (K.taken out.new) commands.items)
-        (λ _. StopsIn session.old session.new (K.taken out.old) (K.taken out.new) commands.items) }
+        (λ _. Serves session.old.events session.new.events (K.taken out.old) (K.taken out.new) commands.items)
+        (λ _. StopsIn session.old.events session.new.events (K.taken out.old) (K.taken out.new) commands.items) }
+    ensures most { session.new.state.jobs.most ≡ session.old.state.jobs.most }
     ensures cause { result ≡ Err Stop.Write → Rose (K.faults out.old) (K.faults out.new) }
     ensures faults_stay { K.faults out.old ≤ K.faults out.new }
 {
     let mut text = Vec::new(alloc);
     for command in commands {
-        match serve(alloc, session, &mut text, command, out) {
+        match serve(rt, alloc, session, &mut text, command, out) {
             Ok(()) => {}
             Err(stop) => return Err(stop),
         }

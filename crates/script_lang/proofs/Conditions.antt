@@ -1,5 +1,5 @@
 -- Each judged line meets the condition of a command.
-use Rattle.std.proofs.Common.{ℕ, Bool, true, false, List, [], ◌∷◌, Option, None, Some, Ok, Err, cond, codes, IsTrue, refl, nat_lt, nat_eq, length}
+use Rattle.std.proofs.Common.{ℕ, Bool, true, false, List, [], ◌∷◌, Option, None, Some, Ok, Err, cond, codes, IsTrue, refl, nat_lt, nat_le, nat_eq, length, ◌≡◌, ◌&&◌}
 use Rattle.std.specs.Prelude.{IfSome}
 use Rattle.std.specs.Str.{bytes_eq}
 use Rattle.std.specs.declared.result.Result.{Result}
@@ -9,13 +9,14 @@ use Rattle.crease_model.specs.declared.Kind.TheVariants.{Edge, Mountain, Valley,
 use Rattle.cp_text.specs.declared.line.CpLine.{CpLine}
 use Rattle.cp_text.specs.declared.line.Ends.{Ends}
 use Rattle.cp_text.specs.declared.line.LineFault.{LineFault}
-use Rattle.cp_text.specs.Digits.{is_digits}
+use Rattle.cp_text.specs.Digits.{is_digits, digits_value}
 use Rattle.cp_text.specs.Words.{longest_line, words_of}
+use Rattle.cp_text.specs.WholeNumber.{number_between, whole_read}
 use Rattle.cp_text.specs.LineReading.{kind_of, ends_read, line_read}
 use Rattle.script_lang.specs.declared.block.LoadStop.TheVariants.{Unended}
 use Rattle.script_lang.specs.declared.command.Command.{Command}
-use Rattle.script_lang.specs.declared.command.Command.TheVariants.{Merge, Clear, Load, Undo, Redo, List as ListCommand, Check}
-use Rattle.script_lang.specs.Judged.{line_command, alone, delete_between, set_kind, set_words, points_read, sheet_command, is_sheet_count, sheet_words, word_command, words_command, command_of}
+use Rattle.script_lang.specs.declared.command.Command.TheVariants.{Merge, Clear, Load, Undo, Redo, List as ListCommand, Check, Fold, Another, Budget, Peek, Wait, Cancel}
+use Rattle.script_lang.specs.Judged.{line_command, alone, delete_between, set_kind, set_words, points_read, sheet_command, is_sheet_count, sheet_words, least_budget, most_budget, number_or_fault, job_read, budget_read, with_number, folding_command, word_command, words_command, command_of}
 use Rattle.script_lang.specs.Script.{meets_condition}
 
 abbrev Meets : Command → Type 0
@@ -57,6 +58,44 @@ corners (Err fault) = refl
 sheet_line : (words : List (List ℕ)) → Meets (sheet_words words)
 sheet_line words = either (is_sheet_count (length words)) _ _ (corners (points_read 1 words)) refl
 
+-- a command with a number that meets the condition whatever the number is
+of_job : (command : ℕ → Command) (job : Result ℕ LineFault) → ((n : ℕ) → Meets (command n))
+    → Meets (with_number command job)
+of_job command (Ok n) h = h n
+of_job command (Err fault) h = refl
+
+between : (n : ℕ) → Meets (with_number Budget (number_or_fault (number_between least_budget most_budget n)))
+between n = go (nat_le least_budget n && nat_le n most_budget) refl
+  where
+    go : (b : Bool) → (nat_le least_budget n && nat_le n most_budget) ≡ b
+        → Meets (with_number Budget (number_or_fault (cond b (Some n) None)))
+    go true h = h
+    go false h = refl
+
+budget_word : (word : List ℕ)
+    → Meets (with_number Budget (number_or_fault (whole_read least_budget most_budget word)))
+budget_word word = go (is_digits word && nat_le (length word) 10)
+  where
+    go : (b : Bool) → Meets (with_number Budget (number_or_fault
+        (cond b (number_between least_budget most_budget (digits_value 0 word)) None)))
+    go true = between (digits_value 0 word)
+    go false = refl
+
+budget : (words : List (List ℕ)) → Meets (with_number Budget (budget_read words))
+budget [] = refl
+budget (word ∷ []) = budget_word word
+budget (word ∷ next ∷ words) = refl
+
+folding : (word : List ℕ) (words : List (List ℕ)) → Meets (folding_command word words)
+folding word words =
+    either (bytes_eq word (codes "fold")) _ _ (by_itself Fold words refl)
+    (either (bytes_eq word (codes "another")) _ _ (of_job Another (job_read words) (λ n. refl))
+    (either (bytes_eq word (codes "budget")) _ _ (budget words)
+    (either (bytes_eq word (codes "peek")) _ _ (of_job Peek (job_read words) (λ n. refl))
+    (either (bytes_eq word (codes "wait")) _ _ (of_job Wait (job_read words) (λ n. refl))
+    (either (bytes_eq word (codes "cancel")) _ _ (of_job Cancel (job_read words) (λ n. refl))
+    refl)))))
+
 pub word_meets : (word : List ℕ) (words : List (List ℕ)) → IsTrue (meets_condition (word_command word words))
 word_meets word words =
     either (bytes_eq word (codes "delete")) _ _ (delete (ends_read 1 words))
@@ -69,7 +108,7 @@ word_meets word words =
     (either (bytes_eq word (codes "redo")) _ _ (by_itself Redo words refl)
     (either (bytes_eq word (codes "list")) _ _ (by_itself ListCommand words refl)
     (either (bytes_eq word (codes "check")) _ _ (by_itself Check words refl)
-    refl)))))))))
+    (folding word words))))))))))
 
 words_meet : (l : List ℕ) (words : List (List ℕ)) → IfSome (words_command l words) Meets
 words_meet l [] = tt

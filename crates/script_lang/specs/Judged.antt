@@ -8,13 +8,14 @@ use Rattle.crease_model.specs.Rules.{is_crease_kind}
 use Rattle.cp_text.specs.declared.line.CpLine.{CpLine}
 use Rattle.cp_text.specs.declared.line.Ends.{Ends}
 use Rattle.cp_text.specs.declared.line.LineFault.{LineFault}
-use Rattle.cp_text.specs.declared.line.LineFault.TheVariants.{LongLine, UnknownWord, BadKind, WrongCount}
+use Rattle.cp_text.specs.declared.line.LineFault.TheVariants.{LongLine, UnknownWord, BadKind, WrongCount, BadNumber}
 use Rattle.cp_text.specs.Digits.{is_digits}
 use Rattle.cp_text.specs.Words.{longest_line, words_of}
+use Rattle.cp_text.specs.WholeNumber.{whole_read}
 use Rattle.cp_text.specs.LineReading.{kind_of, point_read, ends_read, line_read}
 use Rattle.script_lang.specs.declared.block.LoadStop.TheVariants.{Unended}
 use Rattle.script_lang.specs.declared.command.Command.{Command}
-use Rattle.script_lang.specs.declared.command.Command.TheVariants.{Add, Delete, Set, Merge, Clear, Sheet, Load, Undo, Redo, List as ListCommand, Check, Bad}
+use Rattle.script_lang.specs.declared.command.Command.TheVariants.{Add, Delete, Set, Merge, Clear, Sheet, Load, Undo, Redo, List as ListCommand, Check, Fold, Another, Budget, Peek, Wait, Cancel, Bad}
 
 -- a crease line is a line to add
 abbrev pub line_command : Result CpLine LineFault → Command
@@ -69,6 +70,44 @@ abbrev pub sheet_words : List (List ℕ) → Command
 sheet_words words = if is_sheet_count (length words) then sheet_command (points_read 1 words)
     else Bad WrongCount
 
+abbrev pub number_or_fault : Option ℕ → Result ℕ LineFault
+number_or_fault None = Err (BadNumber 1)
+number_or_fault (Some n) = Ok n
+
+-- one word, a whole number within limits
+abbrev pub number_alone : ℕ → ℕ → List (List ℕ) → Result ℕ LineFault
+number_alone least most [] = Err WrongCount
+number_alone least most (word ∷ []) = number_or_fault (whole_read least most word)
+number_alone least most (word ∷ next ∷ words) = Err WrongCount
+
+-- the number of a job, 0 to 4,294,967,295
+abbrev pub job_read : List (List ℕ) → Result ℕ LineFault
+job_read words = number_alone 0 4294967295 words
+
+abbrev pub least_budget : ℕ
+least_budget = 1
+
+abbrev pub most_budget : ℕ
+most_budget = 1000000000
+
+abbrev pub budget_read : List (List ℕ) → Result ℕ LineFault
+budget_read words = number_alone least_budget most_budget words
+
+abbrev pub with_number : (ℕ → Command) → Result ℕ LineFault → Command
+with_number command (Ok n) = command n
+with_number command (Err fault) = Bad fault
+
+-- the commands of folding jobs
+abbrev pub folding_command : List ℕ → List (List ℕ) → Command
+folding_command word words =
+    if bytes_eq word (codes "fold") then alone Fold words
+    else if bytes_eq word (codes "another") then with_number Another (job_read words)
+    else if bytes_eq word (codes "budget") then with_number Budget (budget_read words)
+    else if bytes_eq word (codes "peek") then with_number Peek (job_read words)
+    else if bytes_eq word (codes "wait") then with_number Wait (job_read words)
+    else if bytes_eq word (codes "cancel") then with_number Cancel (job_read words)
+    else Bad UnknownWord
+
 -- a line `load` by itself is a block without lines and without its end
 abbrev pub word_command : List ℕ → List (List ℕ) → Command
 word_command word words =
@@ -82,7 +121,7 @@ word_command word words =
     else if bytes_eq word (codes "redo") then alone Redo words
     else if bytes_eq word (codes "list") then alone ListCommand words
     else if bytes_eq word (codes "check") then alone Check words
-    else Bad UnknownWord
+    else folding_command word words
 
 -- by the first word: a kind, or a command's word. A line of more than 1,000 bytes is not judged further.
 abbrev pub words_command : List ℕ → List (List ℕ) → Option Command

@@ -1,4 +1,5 @@
 pub mod Judged
 pub mod Script
+pub mod Refusals
 pub mod Replies
 pub mod Laws

@@ -12,12 +12,17 @@ use Rattle.cp_text.specs.LineReading.{line_read}
 use Rattle.script_lang.specs.declared.block.LoadStop.{LoadStop}
 use Rattle.script_lang.specs.declared.block.LoadStop.TheVariants.{Ended, Bad, Unended}
 use Rattle.script_lang.specs.declared.command.Command.{Command}
-use Rattle.script_lang.specs.declared.command.Command.TheVariants.{Set, Load}
-use Rattle.script_lang.specs.Judged.{command_of}
+use Rattle.script_lang.specs.declared.command.Command.TheVariants.{Set, Budget, Load}
+use Rattle.script_lang.specs.Judged.{least_budget, most_budget, command_of}
 
--- what each command of a script meets: a piece is set to a mountain or a valley
+-- a budget that an ask may have
+abbrev pub is_budget : ℕ → Bool
+is_budget n = nat_le least_budget n && nat_le n most_budget
+
+-- what each command of a script meets: it sets a mountain or a valley, or a budget within its limits
 abbrev pub meets_condition : Command → Bool
 meets_condition (Set kind from to) = is_crease_kind kind
+meets_condition (Budget budget) = is_budget budget
 meets_condition command = true
 
 -- the words are this one alone

@@ -28,6 +28,18 @@ pub enum Command {
     List,
     /// The local checks of the current version.
     Check,
+    /// A new folding job of the current version.
+    Fold,
+    /// The job is to look for its next layer order.
+    Another { job: u32 },
+    /// How many steps an ask that follows may take before it pauses.
+    Budget { budget: u64 },
+    /// The answer to the job's open ask, if it is there by now.
+    Peek { job: u32 },
+    /// The answer to the job's open ask.
+    Wait { job: u32 },
+    /// The job ends.
+    Cancel { job: u32 },
     /// A line that is no command.
     Bad { fault: LineFault },
 }

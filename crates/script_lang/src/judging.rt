@@ -1,9 +1,9 @@
 //! How a line is judged.
 
-ghost use Rattle.std.specs.Prelude.{◌≡◌, ◌∷◌, [], length, min, Some, IfOk, IfSome, IsTrue};
+ghost use Rattle.std.specs.Prelude.{◌≡◌, ◌∷◌, ◌≤◌, [], length, min, Some, IfOk, IfSome, IsTrue};
 ghost use Rattle.cp_text.specs.Words.{words_of};
 ghost use Rattle.cp_text.specs.LineReading.{ends_read, line_read};
-ghost use Rattle.script_lang.specs.Judged.{command_of, words_command, word_command, line_command, alone, delete_between, set_between, set_kind, set_words, is_sheet_count, points_read, sheet_command, sheet_words};
+ghost use Rattle.script_lang.specs.Judged.{command_of, words_command, word_command, line_command, alone, delete_between, set_between, set_kind, set_words, is_sheet_count, points_read, sheet_command, sheet_words, number_alone, job_read, budget_read, with_number, folding_command};
 ghost use Rattle.script_lang.specs.Script.{meets_condition};
 
 use crate::block::{LoadLines, LoadStop};
@@ -11,13 +11,20 @@ use crate::command::Command;
 use crate::corners::Corners;
 use cp_text::{
     CpLine, Ends, LONGEST_LINE, LineFault, is_digits, next_word, read_ends, read_kind,
-    read_line_words, read_point,
+    read_line_words, read_point, read_whole,
 };
 use crease_model::Kind;
 use std::alloc::{AllocError, Global};
 
 /// The most words of a command.
 const MOST_WORDS: usize = 32;
+
+/// The greatest number of a job that is read as one.
+const MOST_JOB: u64 = 4_294_967_295;
+
+const LEAST_BUDGET: u64 = 1;
+
+const MOST_BUDGET: u64 = 1_000_000_000;
 
 fn add_command(line: Result<CpLine, LineFault>) -> Command
     ensures { result ≡ line_command line }
@@ -145,6 +152,97 @@ fn judge_sheet(alloc: Global, words: &[u8]) -> Result<Command, AllocError>
     }
 }
 
+fn read_alone(words: &[u8], least: u64, most: u64) -> Result<u64, LineFault>
+    ensures exact { result ≡ number_alone least most (words_of words.now) }
+    ensures most { IfOk result (λ n. n ≤ most) }
+{
+    let Some((word, rest)) = next_word(words) else {
+        return Err(LineFault::WrongCount);
+    };
+    if next_word(rest).is_some() {
+        return Err(LineFault::WrongCount);
+    }
+    match read_whole(word, least, most) {
+        Some(n) => Ok(n),
+        None => Err(LineFault::BadNumber { place: 1 }),
+    }
+}
+
+fn read_job(words: &[u8]) -> Result<u32, LineFault>
+    ensures { result ≡ job_read (words_of words.now) }
+{
+    match read_alone(words, 0, MOST_JOB) {
+        Ok(job) => Ok(job as u32),
+        Err(fault) => Err(fault),
+    }
+}
+
+fn judge_another(words: &[u8]) -> Command
+    ensures { result ≡ with_number Command.Another (job_read (words_of words.now)) }
+{
+    match read_job(words) {
+        Ok(job) => Command::Another { job },
+        Err(fault) => bad(fault),
+    }
+}
+
+fn judge_budget(words: &[u8]) -> Command
+    ensures { result ≡ with_number Command.Budget (budget_read (words_of words.now)) }
+{
+    match read_alone(words, LEAST_BUDGET, MOST_BUDGET) {
+        Ok(budget) => Command::Budget { budget },
+        Err(fault) => bad(fault),
+    }
+}
+
+fn judge_peek(words: &[u8]) -> Command
+    ensures { result ≡ with_number Command.Peek (job_read (words_of words.now)) }
+{
+    match read_job(words) {
+        Ok(job) => Command::Peek { job },
+        Err(fault) => bad(fault),
+    }
+}
+
+fn judge_wait(words: &[u8]) -> Command
+    ensures { result ≡ with_number Command.Wait (job_read (words_of words.now)) }
+{
+    match read_job(words) {
+        Ok(job) => Command::Wait { job },
+        Err(fault) => bad(fault),
+    }
+}
+
+fn judge_cancel(words: &[u8]) -> Command
+    ensures { result ≡ with_number Command.Cancel (job_read (words_of words.now)) }
+{
+    match read_job(words) {
+        Ok(job) => Command::Cancel { job },
+        Err(fault) => bad(fault),
+    }
+}
+
+// The command of a folding job.
+fn judge_folding(word: &[u8], words: &[u8]) -> Command
+    ensures { result ≡ folding_command word.now (words_of words.now) }
+{
+    if word == b"fold".as_slice() {
+        judge_alone(Command::Fold, words)
+    } else if word == b"another".as_slice() {
+        judge_another(words)
+    } else if word == b"budget".as_slice() {
+        judge_budget(words)
+    } else if word == b"peek".as_slice() {
+        judge_peek(words)
+    } else if word == b"wait".as_slice() {
+        judge_wait(words)
+    } else if word == b"cancel".as_slice() {
+        judge_cancel(words)
+    } else {
+        bad(LineFault::UnknownWord)
+    }
+}
+
 // A block without lines and without its end.
 fn empty_load(alloc: Global) -> Command
     ensures { result ≡ Command.Load [] LoadStop.Unended }
@@ -179,7 +277,7 @@ fn judge_word(alloc: Global, word: &[u8], words: &[u8]) -> Result<Command, Alloc
     } else if word == b"check".as_slice() {
         Ok(judge_alone(Command::Check, words))
     } else {
-        Ok(bad(LineFault::UnknownWord))
+        Ok(judge_folding(word, words))
     }
 }
 

@@ -1,11 +1,13 @@
 //! The editing script: commands, replies and refusals, and their texts.
 #![tactic(auto)]
 
+mod appending;
 mod block;
 mod command;
 mod corners;
 mod judging;
 mod laws;
+mod refusal;
 mod reply;
 mod script;
 #[cfg(test)]
@@ -20,5 +22,6 @@ pub use laws::{
     open_blocks_are_one_command, plain_lines_are_judged, printed_patterns_are_loaded,
     printed_patterns_come_back, single_lines_are_judged,
 };
-pub use reply::{LoadCause, Refusal, Reply, refusal_of_line, refusal_of_store, write_head};
+pub use refusal::{LoadCause, Refusal, refusal_of_line, refusal_of_store};
+pub use reply::{Reply, write_head};
 pub use script::{Commands, is_load, read_script};

@@ -1,129 +1,76 @@
-//! Replies and refusals, and the first line of their texts.
+//! Replies, and the first line of their texts.
 
-ghost use Rattle.std.specs.Prelude.{◌≡◌, ◌++◌, List, ℕ, codes, decimal, IfOk, IfSome, OnOk, OnErr};
+ghost use Rattle.std.specs.Prelude.{◌≡◌, ◌++◌, map, codes, decimal, OnOk, OnErr};
 ghost use Rattle.cp_text.specs.Growth.{KeepsFront};
-ghost use Rattle.script_lang.specs.Replies.{line_refusal, store_refusal, cause_refusal, head_text, refusal_text, plain_text, refusal_word, refusal_number, refusal_cause, number_part, cause_text};
+ghost use Rattle.script_lang.specs.Replies.{sign_byte, signs_text, job_text, head_text};
 
-use cp_text::{LineFault, all_or_nothing};
-use crease_store::StoreRefusal;
-use itoa::Buffer;
+use crate::appending::append_number;
+use crate::refusal::{Refusal, append_refusal};
+use cp_text::all_or_nothing;
+use sign_rules::{Order, Sign};
 use std::alloc::AllocError;
 
-/// Why a line of a block is refused.
-#[derive(Clone, Copy, Debug, PartialEq, Eq)]
-pub enum LoadCause {
-    /// It is no crease line.
-    Line { fault: LineFault },
-    /// It is not added.
-    Add { refusal: StoreRefusal },
-}
-
-/// Why a command changed nothing. Places count the words after the first, from 1.
-#[derive(Clone, Copy, Debug, PartialEq, Eq)]
-pub enum Refusal {
-    /// The line has more than 1000 bytes.
-    LongLine,
-    /// The first word is no kind and no command.
-    UnknownWord,
-    /// The first word is digits, but no kind.
-    BadKind,
-    /// The line has too few or too many words.
-    WrongCount,
-    /// The word at this place is no number.
-    BadNumber { place: u32 },
-    /// The number at this place is no exact one.
-    NotExact { place: u32 },
-    /// The number at this place is beyond the limits.
-    OutOfRange { place: u32 },
-    /// Both ends are equal.
-    ZeroLength,
-    /// The ends have none of the 16 directions.
-    BadDirection,
-    /// The edge is not within one side of the sheet.
-    EdgeOffBorder,
-    /// An end is outside the sheet.
-    OutsideSheet,
-    /// The crease is within one side of the sheet.
-    OnBorder,
-    /// The common point with this piece, from 1, is not of two exact numbers.
-    Crossing { piece: u32 },
-    /// The pattern would have this many pieces and auxiliary lines, more than 2000.
-    TooManyPieces { pieces: u32 },
-    /// No piece has these ends.
-    NoSuchPiece,
-    /// The corners are no sheet: this one, from 1, is the first bad one, or 0 where only the sum of the turns is wrong.
-    BadSheet { corner: u32 },
-    /// Version 1000 is the last one.
-    Full,
-    /// Version 0 is current.
-    NothingToUndo,
-    /// No undo is left to take back.
-    NothingToRedo,
-    /// This line of a block, from 1, is refused.
-    LoadLine { number: u32, cause: LoadCause },
-    /// A block has no end.
-    LoadUnended,
-}
-
 /// The answer to one command. Numbers of pieces count crease pieces and auxiliary lines.
-#[derive(Clone, Copy, Debug, PartialEq, Eq)]
+#[derive(Drop)]
 pub enum Reply {
     /// The version that is current now.
-    Version { version: u32, pieces: u32 },
+    Version {
+        version: u32,
+        pieces: u32,
+    },
     /// The version whose pattern is listed.
-    Listed { version: u32, pieces: u32 },
+    Listed {
+        version: u32,
+        pieces: u32,
+    },
     /// The version whose vertices were checked, and the number of faults.
-    Checked { version: u32, faults: u32 },
-    Refused { refusal: Refusal },
-}
-
-/// The refusal of a line.
-pub fn refusal_of_line(fault: LineFault) -> Refusal
-    ensures { result ≡ line_refusal fault }
-{
-    match fault {
-        LineFault::LongLine => Refusal::LongLine,
-        LineFault::UnknownWord => Refusal::UnknownWord,
-        LineFault::BadKind => Refusal::BadKind,
-        LineFault::WrongCount => Refusal::WrongCount,
-        LineFault::BadNumber { place } => Refusal::BadNumber { place },
-        LineFault::NotExact { place } => Refusal::NotExact { place },
-        LineFault::OutOfRange { place } => Refusal::OutOfRange { place },
-    }
-}
-
-/// The refusal of a change.
-pub fn refusal_of_store(refusal: StoreRefusal) -> Refusal
-    ensures { result ≡ store_refusal refusal }
-{
-    match refusal {
-        StoreRefusal::ZeroLength => Refusal::ZeroLength,
-        StoreRefusal::BadDirection => Refusal::BadDirection,
-        StoreRefusal::EdgeOffBorder => Refusal::EdgeOffBorder,
-        StoreRefusal::OutsideSheet => Refusal::OutsideSheet,
-        StoreRefusal::OnBorder => Refusal::OnBorder,
-        StoreRefusal::Crossing { piece } => Refusal::Crossing { piece },
-        StoreRefusal::TooManyPieces { pieces } => Refusal::TooManyPieces { pieces },
-        StoreRefusal::NoSuchPiece => Refusal::NoSuchPiece,
-    }
-}
-
-// The refusal that the line itself would have.
-fn refusal_of_cause(cause: LoadCause) -> Refusal
-    ensures { result ≡ cause_refusal cause }
-{
-    match cause {
-        LoadCause::Line { fault } => refusal_of_line(fault),
-        LoadCause::Add { refusal } => refusal_of_store(refusal),
-    }
-}
-
-fn append_number(out: &mut Vec<u8>, n: u32) -> Result<(), AllocError>
-    ensures ok { OnOk result (out.new.items ≡ out.old.items ++ decimal n) }
-    ensures err { OnErr result (out.new.items ≡ out.old.items) }
-{
-    let mut buffer = Buffer::new();
-    out.extend_from_slice(buffer.format(n).as_bytes())
+    Checked {
+        version: u32,
+        faults: u32,
+    },
+    /// A new folding job of this version, with how many faces it has, and how many pairs of them need a sign.
+    Job {
+        job: u32,
+        version: u32,
+        faces: u32,
+        pairs: u32,
+    },
+    /// The job looks for its next layer order.
+    Asked {
+        job: u32,
+    },
+    /// The budget of the asks that follow.
+    Budget {
+        budget: u64,
+    },
+    /// The layer order of the job that has this number, from 1.
+    Shown {
+        job: u32,
+        version: u32,
+        number: u32,
+        order: Order,
+    },
+    /// All layer orders of the job were shown.
+    NoMore {
+        job: u32,
+        version: u32,
+    },
+    /// The budget is spent.
+    Paused {
+        job: u32,
+        version: u32,
+    },
+    /// No answer is there yet.
+    Running {
+        job: u32,
+        version: u32,
+    },
+    Cancelled {
+        job: u32,
+    },
+    Refused {
+        refusal: Refusal,
+    },
 }
 
 // Here and below, on an error a part of the text may stand behind the old bytes.
@@ -134,128 +81,149 @@ fn append_counts(
     between: &[u8],
     pieces: u32,
 ) -> Result<(), AllocError>
-    ensures ok { OnOk result (out.new.items ≡ out.old.items ++ word.now ++ decimal version ++ between.now ++ decimal pieces ++ codes "\n") }
+    ensures ok { OnOk result (out.new.items
+        ≡ out.old.items ++ word.now ++ decimal version ++ between.now ++ decimal pieces ++ codes "\n") }
     ensures err { OnErr result (KeepsFront out.old.items out.new.items) }
 {
     out.extend_from_slice(word)?;
-    append_number(out, version)?;
+    append_number(out, u64::from(version))?;
     out.extend_from_slice(between)?;
-    append_number(out, pieces)?;
+    append_number(out, u64::from(pieces))?;
     out.extend_from_slice(b"\n")
 }
 
-fn refusal_word_of(refusal: Refusal) -> &'static [u8]
-    ensures { result.now ≡ refusal_word refusal }
-{
-    match refusal {
-        Refusal::LongLine => b"longline",
-        Refusal::UnknownWord => b"unknownword",
-        Refusal::BadKind => b"badkind",
-        Refusal::WrongCount => b"wrongcount",
-        Refusal::BadNumber { .. } => b"badnumber",
-        Refusal::NotExact { .. } => b"notexact",
-        Refusal::OutOfRange { .. } => b"outofrange",
-        Refusal::ZeroLength => b"zerolength",
-        Refusal::BadDirection => b"baddirection",
-        Refusal::EdgeOffBorder => b"edgeoffborder",
-        Refusal::OutsideSheet => b"outsidesheet",
-        Refusal::OnBorder => b"onborder",
-        Refusal::Crossing { .. } => b"crossing",
-        Refusal::TooManyPieces { .. } => b"toomanypieces",
-        Refusal::NoSuchPiece => b"nosuchpiece",
-        Refusal::BadSheet { .. } => b"badsheet",
-        Refusal::Full => b"full",
-        Refusal::NothingToUndo => b"nothingtoundo",
-        Refusal::NothingToRedo => b"nothingtoredo",
-        Refusal::LoadLine { .. } => b"load",
-        Refusal::LoadUnended => b"load unended",
-    }
-}
-
-fn refusal_number_of(refusal: Refusal) -> Option<u32>
-    ensures { result ≡ refusal_number refusal }
-{
-    match refusal {
-        Refusal::BadNumber { place } => Some(place),
-        Refusal::NotExact { place } => Some(place),
-        Refusal::OutOfRange { place } => Some(place),
-        Refusal::Crossing { piece } => Some(piece),
-        Refusal::TooManyPieces { pieces } => Some(pieces),
-        Refusal::BadSheet { corner } => Some(corner),
-        Refusal::LoadLine { number, .. } => Some(number),
-        _ => None,
-    }
-}
-
-fn refusal_cause_of(refusal: Refusal) -> Option<LoadCause>
-    ensures { result ≡ refusal_cause refusal }
-{
-    match refusal {
-        Refusal::LoadLine { cause, .. } => Some(cause),
-        _ => None,
-    }
-}
-
-fn append_place(out: &mut Vec<u8>, number: Option<u32>) -> Result<(), AllocError>
-    ensures ok { OnOk result (out.new.items ≡ out.old.items ++ number_part number) }
+fn append_count(out: &mut Vec<u8>, word: &[u8], n: u64) -> Result<(), AllocError>
+    ensures ok { OnOk result (out.new.items ≡ out.old.items ++ word.now ++ decimal n ++ codes "\n") }
     ensures err { OnErr result (KeepsFront out.old.items out.new.items) }
 {
-    match number {
-        None => Ok(()),
-        Some(n) => {
-            out.extend_from_slice(b" ")?;
-            append_number(out, n)
-        }
-    }
-}
-
-// The word and the number of a refusal.
-fn append_plain(out: &mut Vec<u8>, refusal: Refusal) -> Result<(), AllocError>
-    ensures ok { OnOk result (out.new.items ≡ out.old.items ++ plain_text refusal) }
-    ensures err { OnErr result (KeepsFront out.old.items out.new.items) }
-{
-    out.extend_from_slice(refusal_word_of(refusal))?;
-    append_place(out, refusal_number_of(refusal))
-}
-
-fn append_cause(out: &mut Vec<u8>, cause: Option<LoadCause>) -> Result<(), AllocError>
-    ensures ok { OnOk result (out.new.items ≡ out.old.items ++ cause_text cause) }
-    ensures err { OnErr result (KeepsFront out.old.items out.new.items) }
-{
-    match cause {
-        None => Ok(()),
-        Some(cause) => {
-            out.extend_from_slice(b" ")?;
-            append_plain(out, refusal_of_cause(cause))
-        }
-    }
-}
-
-fn append_refusal(out: &mut Vec<u8>, refusal: Refusal) -> Result<(), AllocError>
-    ensures ok { OnOk result (out.new.items ≡ out.old.items ++ codes "refused " ++ refusal_text refusal ++ codes "\n") }
-    ensures err { OnErr result (KeepsFront out.old.items out.new.items) }
-{
-    out.extend_from_slice(b"refused ")?;
-    append_plain(out, refusal)?;
-    append_cause(out, refusal_cause_of(refusal))?;
+    out.extend_from_slice(word)?;
+    append_number(out, n)?;
     out.extend_from_slice(b"\n")
+}
+
+fn append_job(out: &mut Vec<u8>, job: u32, version: u32) -> Result<(), AllocError>
+    ensures ok { OnOk result (out.new.items ≡ out.old.items ++ job_text job version) }
+    ensures err { OnErr result (KeepsFront out.old.items out.new.items) }
+{
+    out.extend_from_slice(b"job ")?;
+    append_number(out, u64::from(job))?;
+    out.extend_from_slice(b" version ")?;
+    append_number(out, u64::from(version))
+}
+
+fn append_state(out: &mut Vec<u8>, job: u32, version: u32, state: &[u8]) -> Result<(), AllocError>
+    ensures ok { OnOk result (out.new.items ≡ out.old.items ++ (job_text job version ++ state.now)) }
+    ensures err { OnErr result (KeepsFront out.old.items out.new.items) }
+{
+    append_job(out, job, version)?;
+    out.extend_from_slice(state)
+}
+
+fn append_shape(
+    out: &mut Vec<u8>,
+    job: u32,
+    version: u32,
+    faces: u32,
+    pairs: u32,
+) -> Result<(), AllocError>
+    ensures ok { OnOk result (out.new.items
+        ≡ out.old.items ++ (job_text job version ++ codes " faces " ++ decimal faces ++ codes " pairs "
+        ++ decimal pairs ++ codes "\n")) }
+    ensures err { OnErr result (KeepsFront out.old.items out.new.items) }
+{
+    append_job(out, job, version)?;
+    append_counts(out, b" faces ", faces, b" pairs ", pairs)
+}
+
+fn sign_byte(sign: Sign) -> u8
+    ensures { result ≡ sign_byte sign }
+{
+    match sign {
+        Sign::Over => b'+',
+        Sign::Under => b'-',
+    }
+}
+
+fn append_each(out: &mut Vec<u8>, signs: &[Sign]) -> Result<(), AllocError>
+    ensures ok { OnOk result (out.new.items ≡ out.old.items ++ map sign_byte signs.now) }
+    ensures err { OnErr result (KeepsFront out.old.items out.new.items) }
+{
+    for sign in signs {
+        out.push(sign_byte(*sign))?;
+    }
+    Ok(())
+}
+
+fn append_signs(out: &mut Vec<u8>, signs: &[Sign]) -> Result<(), AllocError>
+    ensures ok { OnOk result (out.new.items ≡ out.old.items ++ signs_text signs.now) }
+    ensures err { OnErr result (KeepsFront out.old.items out.new.items) }
+{
+    if signs.is_empty() {
+        return out.extend_from_slice(b".");
+    }
+    append_each(out, signs)
+}
+
+// The number of a layer order, and its signs.
+fn append_order(out: &mut Vec<u8>, number: u32, order: &Order) -> Result<(), AllocError>
+    ensures ok { OnOk result (out.new.items ≡ out.old.items ++ codes " order " ++ decimal number
+        ++ codes " " ++ signs_text order.now.list ++ codes "\n") }
+    ensures err { OnErr result (KeepsFront out.old.items out.new.items) }
+{
+    out.extend_from_slice(b" order ")?;
+    append_number(out, u64::from(number))?;
+    out.extend_from_slice(b" ")?;
+    append_signs(out, order.as_slice())?;
+    out.extend_from_slice(b"\n")
+}
+
+fn append_shown(
+    out: &mut Vec<u8>,
+    job: u32,
+    version: u32,
+    number: u32,
+    order: &Order,
+) -> Result<(), AllocError>
+    ensures ok { OnOk result
+        (out.new.items ≡ out.old.items ++ (job_text job version ++ codes " order " ++ decimal number
+        ++ codes " " ++ signs_text order.now.list ++ codes "\n")) }
+    ensures err { OnErr result (KeepsFront out.old.items out.new.items) }
+{
+    append_job(out, job, version)?;
+    append_order(out, number, order)
 }
 
 fn append_head(out: &mut Vec<u8>, reply: &Reply) -> Result<(), AllocError>
     ensures ok { OnOk result (out.new.items ≡ out.old.items ++ head_text reply.now) }
     ensures err { OnErr result (KeepsFront out.old.items out.new.items) }
 {
-    match *reply {
-        Reply::Version { version, pieces } => append_counts(
-            out,
-            b"version ",
-            version,
-            b" pieces ",
-            pieces,
+    match reply {
+        Reply::Version { version, pieces } => {
+            append_counts(out, b"version ", *version, b" pieces ", *pieces)
+        }
+        Reply::Listed { version, pieces } => append_counts(out, b"list ", *version, b" ", *pieces),
+        Reply::Checked { version, faults } => append_counts(
+            out, b"check ", *version, b" ", *faults,
         ),
-        Reply::Listed { version, pieces } => append_counts(out, b"list ", version, b" ", pieces),
-        Reply::Checked { version, faults } => append_counts(out, b"check ", version, b" ", faults),
-        Reply::Refused { refusal } => append_refusal(out, refusal),
+        Reply::Job {
+            job,
+            version,
+            faces,
+            pairs,
+        } => append_shape(out, *job, *version, *faces, *pairs),
+        Reply::Asked { job } => append_count(out, b"asked ", u64::from(*job)),
+        Reply::Budget { budget } => append_count(out, b"budget ", *budget),
+        Reply::Shown {
+            job,
+            version,
+            number,
+            order,
+        } => append_shown(out, *job, *version, *number, order),
+        Reply::NoMore { job, version } => append_state(out, *job, *version, b" no more\n"),
+        Reply::Paused { job, version } => append_state(out, *job, *version, b" paused\n"),
+        Reply::Running { job, version } => append_state(out, *job, *version, b" running\n"),
+        Reply::Cancelled { job } => append_count(out, b"cancelled ", u64::from(*job)),
+        Reply::Refused { refusal } => append_refusal(out, *refusal),
     }
 }
 

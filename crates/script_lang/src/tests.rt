@@ -4,9 +4,12 @@ use super::*;
 use cp_text::{CpLine, LineFault, write_line, write_number};
 use crease_model::Kind;
 use crease_store::StoreRefusal;
-use plane_geometry::Point;
+use itoa::Buffer;
+use plane_geometry::{Dir, Point};
+use sign_rules::{Order, Sign};
 use std::alloc::{AllocError, Global};
 use std::test::Fail;
+use surd_number::Surd;
 
 fn put_point(out: &mut Vec<u8>, point: &Point) -> Result<(), AllocError> {
     out.push(b' ')?;
@@ -76,6 +79,12 @@ fn put_set(out: &mut Vec<u8>, kind: Kind, from: &Point, to: &Point) -> Result<()
     put_kind_line(out, kind, from, to)
 }
 
+fn put_number(out: &mut Vec<u8>, word: &[u8], n: u64) -> Result<(), AllocError> {
+    out.extend_from_slice(word)?;
+    out.extend_from_slice(Buffer::new().format(n).as_bytes())?;
+    out.extend_from_slice(b"\n")
+}
+
 fn put_command(out: &mut Vec<u8>, command: &Command) -> Result<(), AllocError> {
     match command {
         Command::Add { kind, from, to } => put_kind_line(out, *kind, from, to),
@@ -89,6 +98,12 @@ fn put_command(out: &mut Vec<u8>, command: &Command) -> Result<(), AllocError> {
         Command::Redo => out.extend_from_slice(b"redo\n"),
         Command::List => out.extend_from_slice(b"list\n"),
         Command::Check => out.extend_from_slice(b"check\n"),
+        Command::Fold => out.extend_from_slice(b"fold\n"),
+        Command::Another { job } => put_number(out, b"another ", u64::from(*job)),
+        Command::Budget { budget } => put_number(out, b"budget ", *budget),
+        Command::Peek { job } => put_number(out, b"peek ", u64::from(*job)),
+        Command::Wait { job } => put_number(out, b"wait ", u64::from(*job)),
+        Command::Cancel { job } => put_number(out, b"cancel ", u64::from(*job)),
         Command::Bad { fault } => put_refusal(out, refusal_of_line(*fault)),
     }
 }
@@ -104,7 +119,7 @@ fn shown(alloc: Global, script: &str) -> Result<Vec<u8>, AllocError> {
     Ok(out)
 }
 
-const SCRIPTS: [(&str, &str); 12] = [
+const SCRIPTS: [(&str, &str); 18] = [
     (
         "2 0 -200 0 200\n\n4 1r2 0.50 1 -1\r\nundo\nredo\n list \nmerge\ncheck\nclear\ncheck 1",
         "2 0 -200 0 200\n4 1r2 0.5 1 -1\nundo\nredo\nlist\nmerge\ncheck\nclear\nrefused wrongcount\n",
@@ -144,6 +159,74 @@ const SCRIPTS: [(&str, &str); 12] = [
         "sheet 1 2 3 4 5 6 7 8 9 10 11 12 13 14 15 16 17 18 19 20 21 22 23 24 25 26 27 28 29 30 31 32\n\
          refused wrongcount\n\
          refused wrongcount\n",
+    ),
+    (
+        "fold\n\tfold \nfold 1\n",
+        "fold\nfold\nrefused wrongcount\n",
+    ),
+    // A job is any number of 32 bits, with zeros in front up to ten digits.
+    (
+        "another 1\nanother 0\nanother 0000000012\nanother 4294967295\nanother 4294967296\nanother 9999999999\n\
+         another 00000000012\nanother 42949672950\nanother\nanother 1 2\nanother x 2\n",
+        "another 1\n\
+         another 0\n\
+         another 12\n\
+         another 4294967295\n\
+         refused badnumber 1\n\
+         refused badnumber 1\n\
+         refused badnumber 1\n\
+         refused badnumber 1\n\
+         refused wrongcount\n\
+         refused wrongcount\n\
+         refused wrongcount\n",
+    ),
+    (
+        "another x\nanother -1\nanother 1.0\nanother 1r2\nanother +1\nanother 0.3\nanother 1e3\nanother 1x\n",
+        "refused badnumber 1\n\
+         refused badnumber 1\n\
+         refused badnumber 1\n\
+         refused badnumber 1\n\
+         refused badnumber 1\n\
+         refused badnumber 1\n\
+         refused badnumber 1\n\
+         refused badnumber 1\n",
+    ),
+    (
+        "budget 1\nbudget 1000000000\nbudget 0000000016\nbudget 0\nbudget 0000000000\nbudget 1000000001\n\
+         budget 01000000000\nbudget -5\nbudget x\nbudget\nbudget 1 1\n",
+        "budget 1\n\
+         budget 1000000000\n\
+         budget 16\n\
+         refused badnumber 1\n\
+         refused badnumber 1\n\
+         refused badnumber 1\n\
+         refused badnumber 1\n\
+         refused badnumber 1\n\
+         refused badnumber 1\n\
+         refused wrongcount\n\
+         refused wrongcount\n",
+    ),
+    (
+        "peek 3\nwait 4294967295\ncancel 007\npeek 4294967296\nwait x\ncancel 4294967296\npeek\nwait 1 2\ncancel\n",
+        "peek 3\n\
+         wait 4294967295\n\
+         cancel 7\n\
+         refused badnumber 1\n\
+         refused badnumber 1\n\
+         refused badnumber 1\n\
+         refused wrongcount\n\
+         refused wrongcount\n\
+         refused wrongcount\n",
+    ),
+    // Words in capitals and longer ones are others, and a bad word comes before a bad count.
+    (
+        "Fold\nfolds\nanothe 1\nsubfaces 1\npeek1\nbudgets\n",
+        "refused unknownword\n\
+         refused unknownword\n\
+         refused unknownword\n\
+         refused unknownword\n\
+         refused unknownword\n\
+         refused unknownword\n",
     ),
     // Blank lines are counted, and what follows `end` is no part of the block.
     (
@@ -204,6 +287,18 @@ fn bounds_the_lines_of_a_block(rt: HostRuntime) -> Result<(), Fail> {
     Ok(())
 }
 
+// Up from the middle of the lower side.
+fn not_convex() -> Refusal {
+    let at = Point {
+        x: Surd::whole(0),
+        y: Surd::whole(-200),
+    };
+    match Dir::new(4) {
+        Some(direction) => Refusal::NotConvex { at, direction },
+        None => Refusal::BadDirection,
+    }
+}
+
 #[test]
 fn writes_refusals(rt: HostRuntime) -> Result<(), Fail> {
     let add = LoadCause::Add {
@@ -212,7 +307,7 @@ fn writes_refusals(rt: HostRuntime) -> Result<(), Fail> {
     let line = LoadCause::Line {
         fault: LineFault::NotExact { place: 2 },
     };
-    let rows: [(Refusal, &str); 8] = [
+    let rows: [(Refusal, &str); 21] = [
         (Refusal::EdgeOffBorder, "refused edgeoffborder\n"),
         (Refusal::Crossing { piece: 1 }, "refused crossing 1\n"),
         (Refusal::NoSuchPiece, "refused nosuchpiece\n"),
@@ -236,11 +331,124 @@ fn writes_refusals(rt: HostRuntime) -> Result<(), Fail> {
             Refusal::TooManyPieces { pieces: 2001 },
             "refused toomanypieces 2001\n",
         ),
+        (Refusal::TooManyJobs, "refused toomanyjobs\n"),
+        (not_convex(), "refused notconvex 0 -200 4\n"),
+        (
+            Refusal::TooManyFaces { faces: 257 },
+            "refused toomanyfaces 257\n",
+        ),
+        (Refusal::Unreached { face: 2 }, "refused unreached 2\n"),
+        (
+            Refusal::DoesNotClose { piece: 3 },
+            "refused doesnotclose 3\n",
+        ),
+        (Refusal::FoldRange { face: 2 }, "refused foldrange 2\n"),
+        (
+            Refusal::TooManyLines { lines: 204 },
+            "refused toomanylines 204\n",
+        ),
+        (
+            Refusal::TooManyPairs { pairs: 8256 },
+            "refused toomanypairs 8256\n",
+        ),
+        (Refusal::NoSuchJob { job: 9 }, "refused nosuchjob 9\n"),
+        (
+            Refusal::Cancelled { job: 4294967295 },
+            "refused cancelled 4294967295\n",
+        ),
+        (Refusal::Busy { job: 1 }, "refused busy 1\n"),
+        (Refusal::NothingAsked { job: 1 }, "refused nothingasked 1\n"),
+        (Refusal::TooManyAsks, "refused toomanyasks\n"),
     ];
     for (refusal, text) in rows {
         let mut out = Vec::new(rt.alloc());
         put_refusal(&mut out, refusal)?;
         assert_eq!(rt; out.as_slice(), text.as_bytes());
+    }
+    Ok(())
+}
+
+fn put_reply(alloc: Global, reply: &Reply) -> Result<Vec<u8>, AllocError> {
+    let mut out = Vec::new(alloc);
+    write_head(&mut out, reply)?;
+    Ok(out)
+}
+
+#[test]
+fn writes_replies(rt: HostRuntime) -> Result<(), Fail> {
+    let rows: [(Reply, &str); 10] = [
+        (
+            Reply::Version {
+                version: 3,
+                pieces: 2000,
+            },
+            "version 3 pieces 2000\n",
+        ),
+        (
+            Reply::Listed {
+                version: 0,
+                pieces: 0,
+            },
+            "list 0 0\n",
+        ),
+        (
+            Reply::Checked {
+                version: 3,
+                faults: 1,
+            },
+            "check 3 1\n",
+        ),
+        (
+            Reply::Job {
+                job: 64,
+                version: 1000,
+                faces: 256,
+                pairs: 8192,
+            },
+            "job 64 version 1000 faces 256 pairs 8192\n",
+        ),
+        (Reply::Asked { job: 2 }, "asked 2\n"),
+        (Reply::Budget { budget: 1000000000 }, "budget 1000000000\n"),
+        (
+            Reply::NoMore { job: 1, version: 0 },
+            "job 1 version 0 no more\n",
+        ),
+        (
+            Reply::Paused { job: 1, version: 3 },
+            "job 1 version 3 paused\n",
+        ),
+        (
+            Reply::Running { job: 1, version: 1 },
+            "job 1 version 1 running\n",
+        ),
+        (Reply::Cancelled { job: 1 }, "cancelled 1\n"),
+    ];
+    for (reply, text) in rows {
+        assert_eq!(rt; put_reply(rt.alloc(), &reply)?.as_slice(), text.as_bytes());
+    }
+    Ok(())
+}
+
+#[test]
+fn writes_layer_orders(rt: HostRuntime) -> Result<(), Fail> {
+    let rows: [(u32, &[Sign], &str); 3] = [
+        (1, &[], "job 1 version 0 order 1 .\n"),
+        (2, &[Sign::Under], "job 1 version 0 order 2 -\n"),
+        (
+            4294967295,
+            &[Sign::Over, Sign::Under, Sign::Under, Sign::Over],
+            "job 1 version 0 order 4294967295 +--+\n",
+        ),
+    ];
+    for (number, signs, text) in rows {
+        let order = Order::with_room(rt.alloc(), signs, signs.len())?;
+        let shown = Reply::Shown {
+            job: 1,
+            version: 0,
+            number,
+            order,
+        };
+        assert_eq!(rt; put_reply(rt.alloc(), &shown)?.as_slice(), text.as_bytes());
     }
     Ok(())
 }

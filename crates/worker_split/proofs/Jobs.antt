@@ -1,5 +1,5 @@
 -- What a job keeps, step by step.
-use Rattle.std.proofs.Common.{◌≡◌, ℕ, ◌+◌, ◌-◌, ◌<◌, ◌≤◌, Bool, true, false, cond, eqb, List, [], ◌∷◌, ◌++◌, length, map, take, drop, Option, Some, None, slice_get, slice_index_or, slice_set, refl, sym, ◌∙◌, ap, subst, arith}
+use Rattle.std.proofs.Common.{◌≡◌, ℕ, ◌+◌, ◌-◌, ◌<◌, ◌≤◌, Bool, true, false, cond, eqb, List, [], ◌∷◌, ◌++◌, length, map, take, drop, Option, Some, None, is_some, slice_get, slice_index_or, slice_set, refl, sym, ◌∙◌, ap, subst, arith}
 use Rattle.std.specs.List.{All}
 use Rattle.std.proofs.lemmas.Bool.{eqb-false}
 use Rattle.std.proofs.lemmas.List.{length-set, length-map, append-nil, at_drop_all, set-get_or, take_all}
@@ -26,7 +26,7 @@ use Rattle.worker_split.specs.declared.answers.JobAnswer.{JobAnswer}
 use Rattle.worker_split.specs.declared.answers.JobAnswer.TheVariants.{Shown, NoMore, Paused as Waiting, NotReady}
 use Rattle.worker_split.specs.Tasks.{TaskView, IsRightEnd, IsRightOutcome}
 use Rattle.worker_split.specs.Job.{JobView, piece_at, task_with, NamesTask, NamesTaskOf, Matches, answered_piece, asked_end, asked_piece, reopened_end, new_piece, done_before, end_answer, reopened, after_answer}
-use Rattle.worker_split.specs.Invariant.{IsPiece, IsJob}
+use Rattle.worker_split.specs.Invariant.{IsPiece, HasBudget, WasAsked, IsJob}
 
 asked_budget : (budget asked : ℕ) (end : PieceEnd) (last : LastTask) → 1 ≤ budget → ((b : ℕ) → last ≡ Asked b → 1 ≤ b)
     → asked_end budget end last ≡ Asked asked → 1 ≤ asked
@@ -40,9 +40,6 @@ IsPiece-asked r budget p some piece = record {
   consistent = piece.consistent;
   budget = λ asked e. asked_budget budget asked p.end p.last some piece.budget e;
 }
-
-pub IsPiece-reopened : (r : RulesView) (p : Piece) → IsPiece r p → IsPiece r (record p { end = reopened_end p.end })
-IsPiece-reopened r p piece = record { within = piece.within; consistent = piece.consistent; budget = piece.budget }
 
 pub IsPiece-answered : (r : RulesView) (p : Piece) (budget : ℕ) (t : TaskView) (end : End) → IsPiece r p → t.rules ≡ r
     → t.prefix ≡ p.prefix.list → IsRightEnd t end → IsPiece r (answered_piece p budget end)
@@ -92,29 +89,57 @@ match_of j x matches = by_piece (piece_at j x.piece) refl matches
     by_piece None e m = absurd m
     by_piece (Some p) e m = (p, e, m)
 
+-- ---- tasks of an open ask
+
+-- a task that is answered had the budget of the ask, and so has the answered one
+WasAsked-answered : (ask : Option ℕ) (p : Piece) (budget : ℕ) (end : End) → p.last ≡ Asked budget → WasAsked ask p
+    → WasAsked ask (answered_piece p budget end)
+WasAsked-answered ask p budget (Found order position) last was = λ b e open_end. absurd (cc)
+WasAsked-answered ask p budget Done last was = λ b e open_end. absurd (cc)
+WasAsked-answered ask p budget (Paused position) last was = λ b e open_end. subst (HasBudget b) last (was b e open_end)
+
+WasAsked-asked : (budget : ℕ) (p : Piece) → WasAsked (Some budget) (asked_piece budget p)
+WasAsked-asked budget p b e open_end =
+    let same : budget ≡ b = (cc) in
+    subst (λ x. HasBudget b (asked_end budget x p.last)) (sym open_end) same
+
+-- without an ask nothing is said of any piece
+none_asked : (pieces : List Piece) → All (WasAsked None) pieces
+none_asked pieces n d below budget e = absurd (cc)
+
+pub piece_asked : (j : JobView) (piece : ℕ) (p : Piece) → All (WasAsked j.ask) j.pieces → piece_at j piece ≡ Some p → WasAsked j.ask p
+piece_asked j piece p asked e =
+    let here = at_place j piece p e in
+    subst (WasAsked j.ask) (here.is p) (asked (piece - 1) p here.inside)
+
+-- an unanswered task has the budget of the open ask
+pub budget_of_ask : (ask : Option ℕ) (p : Piece) (budget : ℕ) → is_some ask ≡ true → WasAsked ask p → p.end ≡ Open → p.last ≡ Asked budget
+    → ask ≡ Some budget
+budget_of_ask None p budget some was open_end last = absurd (cc)
+budget_of_ask (Some own) p budget some was open_end last = ap Some (sym (subst (HasBudget own) last (was own refl open_end)))
+
 -- the job with the answer of a piece in its place
-pub IsJob-answered : (j : JobView) (x : Outcome) (p : Piece) → IsJob j.rules j.pieces → piece_at j x.piece ≡ Some p
+pub IsJob-answered : (j : JobView) (x : Outcome) (p : Piece) → IsJob j.rules j.pieces j.ask → piece_at j x.piece ≡ Some p
     → NamesTask j p x → IsRightOutcome (task_with j x.piece p x.budget) x
-    → IsJob j.rules (slice_set j.pieces (x.piece - 1) (answered_piece p x.budget x.end))
+    → IsJob j.rules (slice_set j.pieces (x.piece - 1) (answered_piece p x.budget x.end)) j.ask
 IsJob-answered j x p job known names right = record {
   each = All-set (IsPiece j.rules) j.pieces (x.piece - 1) (answered_piece p x.budget x.end)
       (IsPiece-answered j.rules p x.budget (task_with j x.piece p x.budget) x.end (piece_known j x.piece p job.each known) refl refl right.end)
       job.each;
+  asked =
+      All-set (WasAsked j.ask) j.pieces (x.piece - 1) (answered_piece p x.budget x.end)
+      (WasAsked-answered j.ask p x.budget x.end names.unanswered
+      (piece_asked j x.piece p job.asked known))
+      job.asked;
   few = omega (arith, job.few, length-set j.pieces (x.piece - 1) (answered_piece p x.budget x.end));
 }
 
-pub IsJob-asked : (r : RulesView) (pieces : List Piece) (budget : ℕ) → 1 ≤ budget → IsJob r pieces → IsJob r (map (asked_piece budget) pieces)
-IsJob-asked r pieces budget some job = record {
+pub IsJob-asked : (r : RulesView) (pieces : List Piece) (ask : Option ℕ) (budget : ℕ) → 1 ≤ budget → IsJob r pieces ask
+    → IsJob r (map (asked_piece budget) pieces) (Some budget)
+IsJob-asked r pieces ask budget some job = record {
   each = All-map (IsPiece r) (asked_piece budget) pieces (λ k d below. IsPiece-asked r budget (slice_index_or pieces k d) some (job.each k d below));
+  asked = All-map (WasAsked (Some budget)) (asked_piece budget) pieces (λ k d below. WasAsked-asked budget (slice_index_or pieces k d));
   few = omega (arith, job.few, length-map pieces (asked_piece budget));
-}
-
-pub IsJob-reopened : (r : RulesView) (pieces : List Piece) (n : ℕ) (p : Piece) → IsJob r pieces → n < length pieces → p ≡ slice_index_or pieces n p
-    → IsJob r (slice_set pieces n (record p { end = reopened_end p.end }))
-IsJob-reopened r pieces n p job below is = record {
-  each = All-set (IsPiece r) pieces n (record p { end = reopened_end p.end })
-      (IsPiece-reopened r p (subst (IsPiece r) (sym is) (job.each n p below))) job.each;
-  few = omega (arith, job.few, length-set pieces n (record p { end = reopened_end p.end }));
 }
 
 -- a loop that went over the whole list
@@ -193,10 +218,11 @@ IsPiece-new r prefix consistent = record {
   budget = λ asked e. absurd (cc);
 }
 
-pub IsJob-opened : (r : RulesView) → IsJob r (map new_piece (pieces_of r 1))
+pub IsJob-opened : (r : RulesView) → IsJob r (map new_piece (pieces_of r 1)) None
 IsJob-opened r = record {
   each = All-map (IsPiece r) new_piece (pieces_of r 1)
       (λ k d below. IsPiece-new r (slice_index_or (pieces_of r 1) k d) (pieces-consistent r 1 k d below));
+  asked = none_asked (map new_piece (pieces_of r 1));
   few = omega (arith, length-map (pieces_of r 1) new_piece, one_piece r);
 }
 

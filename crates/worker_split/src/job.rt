@@ -1,4 +1,4 @@
-ghost use Rattle.std.specs.Prelude.{◌≡◌, ◌<◌, ◌≤◌, ◌↔◌, ℕ, length, IfOk, IsTrue, IsSome, IsNone, IfSome, Option, None, Some, option_map, MatchOption};
+ghost use Rattle.std.specs.Prelude.{◌≡◌, ◌+◌, ◌<◌, ◌≤◌, ◌↔◌, ℕ, length, IfOk, IsTrue, IsSome, IsNone, IfSome, Option, None, Some, option_map, MatchOption};
 ghost use Rattle.std.specs.Arc.{arc_value};
 ghost use Rattle.worker_split.specs.Job.{done_before};
 
@@ -38,12 +38,14 @@ impl Model for JobState {
       ask = j.ask;
     } };
 
-    ghost invariant = { λ j. IsJob (arc_value j.rules) j.pieces.items };
+    ghost invariant = { λ j. IsJob (arc_value j.rules) j.pieces.items j.ask };
 }
 
 impl JobState {
     ghost use Rattle.worker_split.specs.Tasks.{task_of, IsRightOutcome};
-    ghost use Rattle.worker_split.specs.Job.{opened, asked, task_at, piece_at, Matches, IsRightFor, IsRightWhereNamed, IsTaken, kept_of, next_answer, after_answer, needed};
+    ghost use Rattle.worker_split.specs.Job.{opened, asked, task_at, piece_at, Matches, IsRightFor, IsRightWhereNamed, IsTaken, kept_of, next_answer, after_answer, waits_for, needed};
+    ghost use Rattle.worker_split.specs.Waiting.{waiting};
+    ghost use Rattle.worker_split.specs.declared.answers.Taken.TheVariants.{Accepted};
     ghost use Rattle.worker_split.specs.declared.piece.Piece.{Piece};
     ghost use Rattle.worker_split.specs.declared.outcome.Outcome.{Outcome};
 
@@ -107,6 +109,9 @@ impl JobState {
         ensures task { IfOk result (λ task. option_map task_of task ≡ task_at self.now piece) }
         ensures right { IfOk result (λ task. IfSome task (λ t. (x : Outcome) → IsRightOutcome (task_of t) x
             → IsRightFor self.now x)) }
+        ensures answers { IfOk result (λ task. IfSome task (λ t. (x : Outcome) → IsRightOutcome (task_of t) x
+            → Matches self.now x)) }
+        ensures budget { IfOk result (λ task. IfSome task (λ t. self.now.ask ≡ Some t.budget)) }
     {
         if self.ask.is_none() {
             return Ok(None);
@@ -131,7 +136,8 @@ impl JobState {
     /// Takes an outcome that answers the last task of its piece. Any other changes nothing, and comes back.
     pub fn accept(&mut self, outcome: Outcome) -> Taken
         requires { IsRightWhereNamed self.old outcome }
-        ensures { IsTaken self.old outcome result self.new }
+        ensures taken { IsTaken self.old outcome result self.new }
+        ensures fewer { result ≡ Accepted → waiting self.old ≡ waiting self.new + 1 }
     {
         if !self.matches(&outcome) {
             return Taken::Stranger {
@@ -166,13 +172,21 @@ impl JobState {
         }
     }
 
-    /// The piece whose outcome an open ask waits for.
+    /// The piece whose outcome an open ask waits for. It has a task.
     pub fn needs(&self) -> Option<u32>
-        ensures { result ≡ needed self.now }
+        ensures needed { result ≡ needed self.now }
+        ensures task { IfSome result (λ piece. IsSome (task_at self.now piece)) }
     {
         if self.ask.is_none() {
             return None;
         }
+        self.first_waiting()
+    }
+
+    /// The first piece that is not done, where it has no outcome of its last task yet.
+    fn first_waiting(&self) -> Option<u32>
+        ensures { result ≡ waits_for (next_answer self.now) }
+    {
         let first = done_before(&self.pieces);
         match self.pieces.get(first) {
             Some(piece) if piece.is_waiting() => Some(first as u32 + 1),

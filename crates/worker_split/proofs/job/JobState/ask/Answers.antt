@@ -1,4 +1,4 @@
-use Rattle.std.proofs.Common.{◌≡◌, ◌∙◌, ◌++◌, length, map, take, drop, sym, ap, subst, arith, slice_set}
+use Rattle.std.proofs.Common.{◌≡◌, ◌∙◌, ◌++◌, length, map, Some, take, drop, sym, ap, subst, arith, slice_set}
 use Rattle.std.specs.Arc.{arc_value}
 use Rattle.std.proofs.lemmas.List.Edits.{map_over_more}
 use Rattle.worker_split.specs.Job.{asked_piece}
@@ -23,5 +23,5 @@ invariant_of-self c =
     subst (λ l. items ≡ map f (take c.loop-piece.piece-index l) ++ drop c.loop-piece.piece-index l) here c.loop-piece.invariant in
     let whole = whole_list f start items c.loop-piece.piece-index c.self.inside.pieces.len invariant
     (omega (arith, c.loop-piece-test.false, ap length here)) (omega (arith, c.self.inside.pieces.ok.0)) in
-    subst (IsJob (arc_value c.self.inside.rules)) (sym whole)
-    (IsJob-asked (arc_value c.self.inside.rules) start c.args.budget c.requires c.self.invariant)
+    subst (λ ps. IsJob (arc_value c.self.inside.rules) ps (Some c.args.budget)) (sym whole)
+    (IsJob-asked (arc_value c.self.inside.rules) start c.self.inside.ask c.args.budget c.requires c.self.invariant)

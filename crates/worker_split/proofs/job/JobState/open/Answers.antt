@@ -14,8 +14,8 @@ invariant_of-result c =
     let prefixes = c.deref-prefix-items.ensures.value ∙ c.in_ok-prefixes.ensures ∙ ap (λ q. map order_of (pieces_of q c.args.most)) c.deref.ensures in
     let all = made_pieces c.loop-prefix.pieces.items c.deref-prefix-items.result.now c.loop-prefix.prefix-index (pieces_of r c.args.most)
     c.loop-prefix.invariant c.loop-prefix-test.false prefixes in
-    subst (IsJob r) (sym all)
-    (subst (λ most. IsJob r (map new_piece (pieces_of r most))) (sym c.requires) (IsJob-opened r))
+    subst (λ ps. IsJob r ps None) (sym all)
+    (subst (λ most. IsJob r (map new_piece (pieces_of r most)) None) (sym c.requires) (IsJob-opened r))
 
 pub returns : goal.returns
 returns c =

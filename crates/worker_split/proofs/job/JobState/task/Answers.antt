@@ -1,4 +1,4 @@
-use Rattle.std.proofs.Common.{◌≡◌, ◌∙◌, true, sym, ap, subst}
+use Rattle.std.proofs.Common.{◌≡◌, ◌∙◌, true, is_some, sym, ap, subst}
 use Rattle.std.specs.Arc.{arc_value}
 use Rattle.std.specs.List.{All}
 use Rattle.sign_rules.specs.Signs.{OrderView}
@@ -6,8 +6,8 @@ use Rattle.sign_rules.specs.Rules.{is_consistent}
 use Rattle.search_cursor.specs.Place.{Place}
 use Rattle.order_search.specs.Invariant.{IsWithin}
 use Rattle.worker_split.specs.Job.{JobView}
-use Rattle.worker_split.specs.Invariant.{IsPiece}
-use Rattle.worker_split.proofs.Jobs.{piece_known}
+use Rattle.worker_split.specs.Invariant.{IsPiece, WasAsked}
+use Rattle.worker_split.proofs.Jobs.{piece_known, piece_asked, budget_of_ask}
 use Rattle.worker_split.proofs.job.JobState.task.Goals as goal
 
 pub invariant_of-result : goal.invariant_of-result
@@ -32,3 +32,12 @@ invariant_of-result c =
           (subst (λ r. IsWithin r kept.prefix.list kept.kept.signs.list) rules known.within));
       some_budget = known.budget c.in-Open-Asked.budget c.in-Open-Asked.is-1;
     }
+
+pub returns-in_ok-copy-in-Open-Asked-2-clause-budget : goal.returns-in_ok-copy-in-Open-Asked-2-clause-budget
+returns-in_ok-copy-in-Open-Asked-2-clause-budget c =
+    let j = c.args.self.now in
+    let kept = c.in-Some.kept.now in
+    let asked = subst (λ (v : JobView). All (WasAsked v.ask) v.pieces) c.self.view_is c.self.invariant.asked in
+    let some = subst (λ (v : JobView). is_some v.ask ≡ true) c.self.view_is c.if-is_none.ensures in
+    budget_of_ask j.ask kept c.in-Open-Asked.budget some (piece_asked j c.args.piece kept asked c.in-Some.ensures)
+    c.in-Open-Asked.is-0 c.in-Open-Asked.is-1
