@@ -1,9 +1,8 @@
 -- Faults as text, a line each.
 use Rattle.std.specs.Prelude.{ℕ, List, ◌++◌, flat_map, codes, decimal}
-use Rattle.surd_number.specs.Value.{number_of}
 use Rattle.plane_geometry.specs.declared.Point.{Point}
 use Rattle.plane_geometry.specs.DirView.{dir_number}
-use Rattle.cp_text.specs.NumberText.{number_text}
+use Rattle.cp_text.specs.LineText.{bare_point_text}
 use Rattle.vertex_checks.specs.declared.faults.LocalFault.{LocalFault}
 use Rattle.vertex_checks.specs.declared.faults.LocalFault.TheVariants.{Kawasaki, Maekawa, BigLittleBig}
 use Rattle.vertex_checks.specs.declared.faults.VertexFault.{VertexFault}
@@ -16,7 +15,7 @@ local_text (BigLittleBig direction) = codes "biglittlebig " ++ decimal (dir_numb
 
 -- both coordinates, each with a space behind it
 abbrev pub vertex_text : Point → List ℕ
-vertex_text v = number_text (number_of v.x) ++ codes " " ++ number_text (number_of v.y) ++ codes " "
+vertex_text v = bare_point_text v ++ codes " "
 
 abbrev pub fault_text : VertexFault → List ℕ
 fault_text f = vertex_text f.vertex ++ local_text f.fault ++ codes "\n"

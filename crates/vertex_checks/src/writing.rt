@@ -5,7 +5,7 @@ ghost use Rattle.cp_text.specs.Growth.{KeepsFront};
 ghost use Rattle.vertex_checks.specs.Text.{local_text, vertex_text, fault_text, faults_text};
 
 use crate::faults::{LocalFault, VertexFault};
-use cp_text::{all_or_nothing, write_number};
+use cp_text::{all_or_nothing, write_point};
 use itoa::Buffer;
 use plane_geometry::Point;
 use std::alloc::AllocError;
@@ -39,9 +39,7 @@ fn put_vertex(out: &mut Vec<u8>, v: &Point) -> Result<(), AllocError>
     ensures ok { OnOk result (out.new.items ≡ out.old.items ++ vertex_text v.now) }
     ensures err { OnErr result (KeepsFront out.old.items out.new.items) }
 {
-    write_number(out, &v.x)?;
-    out.extend_from_slice(b" ")?;
-    write_number(out, &v.y)?;
+    write_point(out, v)?;
     out.extend_from_slice(b" ")
 }
 
