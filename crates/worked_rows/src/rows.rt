@@ -4,6 +4,7 @@ use crate::blocks::BLOCKS;
 use crate::changes::{CHANGES, MERGES, SHEETS};
 use crate::checks::CHECKS;
 use crate::creases::CREASES;
+use crate::folding::FOLDINGS;
 use crate::lines::LINES;
 use crate::runs::{Row, all_meet};
 use std::test::Fail;
@@ -48,7 +49,7 @@ const COMMANDS: [Row; 16] = [
         "version 1 pieces 1\n\
          version 2 pieces 4\n\
          version 3 pieces 5\n\
-         refused unknownword\n\
+         refused notconvex 0 0 2\n\
          version 2 pieces 4\n\
          version 1 pieces 1\n\
          version 0 pieces 0\n\
@@ -543,5 +544,6 @@ fn answers_each_row(rt: HostRuntime) -> Result<(), Fail> {
     all_meet(&rt, alloc, &SHEETS)?;
     all_meet(&rt, alloc, &CHECKS)?;
     all_meet(&rt, alloc, &BLOCKS)?;
+    all_meet(&rt, alloc, &FOLDINGS)?;
     Ok(())
 }
