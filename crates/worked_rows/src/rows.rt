@@ -9,7 +9,7 @@ use crate::lines::LINES;
 use crate::runs::{Row, all_meet};
 use std::test::Fail;
 
-const COMMANDS: [Row; 16] = [
+const COMMANDS: [Row; 14] = [
     ("", "", 0),
     ("2 0 -200 0 200\n", "version 1 pieces 1\n", 0),
     (
@@ -81,27 +81,6 @@ const COMMANDS: [Row; 16] = [
         1,
     ),
     (
-        "2 0 0 0 0\n\
-         2 0 0 100 50\n\
-         1 0 0 100 0\n\
-         2 0 0 300 0\n\
-         2 -200 -200 200 -200\n\
-         delete 0 0 1 0\n\
-         9 0 0 1 1\n\
-         fly\n\
-         undo 3\n",
-        "refused zerolength\n\
-         refused baddirection\n\
-         refused edgeoffborder\n\
-         refused outsidesheet\n\
-         refused onborder\n\
-         refused nosuchpiece\n\
-         refused badkind\n\
-         refused unknownword\n\
-         refused wrongcount\n",
-        1,
-    ),
-    (
         "2 -200 -200 200 -600+400r2\n\
          3 0 -200 0 200\n\
          list\n",
@@ -153,15 +132,6 @@ const COMMANDS: [Row; 16] = [
          2 0 -200 0 200\n\
          4 -200 0 200 0\n",
         0,
-    ),
-    (
-        "sheet 0 0 0 100 100 0\n\
-         sheet 0 0 100 0 0 100\n\
-         2 0 0 50 50\n",
-        "refused badsheet 1\n\
-         version 1 pieces 0\n\
-         version 2 pieces 1\n",
-        1,
     ),
     (
         "load\n\
