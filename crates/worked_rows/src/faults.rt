@@ -10,6 +10,7 @@ use std::io;
 use std::io::ErrorKind;
 use std::process::Abort;
 use std::test::Fail;
+use std::thread::Threads;
 
 const SCRIPT: &[u8] = b"2 0 -200 0 200\nredo\nundo\n";
 
@@ -17,8 +18,8 @@ const REPLIES: &[u8] = b"version 1 pieces 1\nrefused nothingtoredo\nversion 0 pi
 
 // Runs the script with at most so many bytes a call and so much room in the sink, where the listed reads and writes fail.
 // Compares the status, how many bytes of the replies were written, and how often the sink was finished.
-fn ends(
-    rt: &impl Abort,
+fn ends<R: Abort + Threads + Sync>(
+    rt: &R,
     alloc: Global,
     most: usize,
     room: usize,
@@ -28,7 +29,7 @@ fn ends(
 ) -> Result<(), AllocError>
     requires { 1 ≤ most }
 {
-    let (status, sink) = answer(alloc, SCRIPT, most, room, reads, writes)?;
+    let (status, sink) = answer(rt, alloc, SCRIPT, most, room, reads, writes)?;
     let ended = (status, sink.bytes().len(), sink.finishes());
     assert_eq!(rt; ended, wanted, "{reads:?} {writes:?} {room}");
     assert!(rt;
@@ -91,11 +92,11 @@ fn words_are_refused_before_anything_is_read(rt: HostRuntime) -> Result<(), Fail
             }
             Err(kind) => Err(io::Error::from(kind)),
         };
-        let ended = run_arguments(alloc, arguments, &mut source, &mut sink);
+        let ended = run_arguments(&rt, alloc, arguments, &mut source, &mut sink);
         assert_eq!(rt; ended.status, status, "{told:?}");
         if status > 1 {
             assert_eq!(rt; (sink.bytes().len(), sink.finishes()), (0, 0), "{told:?}");
-            let ended = run(alloc, &[], &mut source, &mut sink);
+            let ended = run(&rt, alloc, &[], &mut source, &mut sink);
             assert_eq!(rt; ended.status, 1, "{told:?}");
         }
         assert_eq!(rt; sink.bytes(), REPLIES, "{told:?}");

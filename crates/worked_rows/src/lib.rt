@@ -17,6 +17,10 @@ mod faults;
 #[cfg(test)]
 mod folded_shapes;
 #[cfg(test)]
+mod folding;
+#[cfg(test)]
+mod folding_limits;
+#[cfg(test)]
 mod limits;
 #[cfg(test)]
 mod lines;
@@ -24,3 +28,5 @@ mod lines;
 mod rows;
 #[cfg(test)]
 mod runs;
+#[cfg(test)]
+mod stamps;

@@ -15,11 +15,11 @@ fn long_script(alloc: Global, length: usize) -> Result<Vec<u8>, AllocError> {
 #[test]
 fn a_script_has_four_mebibytes_at_most(rt: HostRuntime) -> Result<(), Fail> {
     let longest = long_script(rt.alloc(), 4_194_304)?;
-    let (status, sink) = answer(rt.alloc(), longest.as_slice(), ROOM, ROOM, &[], &[])?;
+    let (status, sink) = answer(&rt, rt.alloc(), longest.as_slice(), ROOM, ROOM, &[], &[])?;
     has_text(&rt, &sink, "refused nothingtoundo\n", "the longest script");
     assert_eq!(rt; status, 1);
     let longer = long_script(rt.alloc(), 4_194_305)?;
-    let (status, sink) = answer(rt.alloc(), longer.as_slice(), ROOM, ROOM, &[], &[])?;
+    let (status, sink) = answer(&rt, rt.alloc(), longer.as_slice(), ROOM, ROOM, &[], &[])?;
     has_text(&rt, &sink, "", "a longer script");
     assert_eq!(rt; status, 5);
     Ok(())
@@ -41,7 +41,7 @@ fn there_are_a_thousand_versions_at_most(rt: HostRuntime) -> Result<(), Fail> {
     let (mut script, mut replies) = clears(rt.alloc(), 1_000)?;
     script.push_str("clear\nundo\n")?;
     replies.push_str("refused full\nversion 999 pieces 0\n")?;
-    let (status, sink) = answer(rt.alloc(), script.as_bytes(), ROOM, ROOM, &[], &[])?;
+    let (status, sink) = answer(&rt, rt.alloc(), script.as_bytes(), ROOM, ROOM, &[], &[])?;
     has_text(&rt, &sink, replies.as_str(), "a thousand clears");
     assert_eq!(rt; status, 1);
     Ok(())
@@ -99,7 +99,7 @@ fn the_last_version_is_the_last(rt: HostRuntime) -> Result<(), Fail> {
          refused load 1 unknownword\n\
          refused load unended\n",
     )?;
-    let (status, sink) = answer(rt.alloc(), script.as_bytes(), ROOM, ROOM, &[], &[])?;
+    let (status, sink) = answer(&rt, rt.alloc(), script.as_bytes(), ROOM, ROOM, &[], &[])?;
     has_text(&rt, &sink, replies.as_str(), "the last version");
     assert_eq!(rt; status, 1);
     Ok(())
@@ -126,7 +126,7 @@ fn a_crease_cuts_a_hundred_others(rt: HostRuntime) -> Result<(), Fail> {
          version 101 pieces 301\n\
          version 100 pieces 100\n",
     )?;
-    let (status, sink) = answer(rt.alloc(), script.as_bytes(), ROOM, ROOM, &[], &[])?;
+    let (status, sink) = answer(&rt, rt.alloc(), script.as_bytes(), ROOM, ROOM, &[], &[])?;
     has_text(&rt, &sink, replies.as_str(), "upright creases");
     assert_eq!(rt; status, 0);
     Ok(())
@@ -165,7 +165,7 @@ fn a_pattern_has_two_thousand_pieces_at_most(rt: HostRuntime) -> Result<(), Fail
          2 0 -200 0 200\n\
          2 -200 0 200 0\n",
     )?;
-    let (status, sink) = answer(rt.alloc(), script.as_bytes(), ROOM, ROOM, &[], &[])?;
+    let (status, sink) = answer(&rt, rt.alloc(), script.as_bytes(), ROOM, ROOM, &[], &[])?;
     let replies = "version 1 pieces 2000\n\
                    refused toomanypieces 2001\n\
                    refused toomanypieces 2001\n\
@@ -176,7 +176,7 @@ fn a_pattern_has_two_thousand_pieces_at_most(rt: HostRuntime) -> Result<(), Fail
     has_text(&rt, &sink, replies, "auxiliary lines");
     assert_eq!(rt; status, 1);
     let longer = level_lines(rt.alloc(), 2_001)?;
-    let (status, sink) = answer(rt.alloc(), longer.as_bytes(), ROOM, ROOM, &[], &[])?;
+    let (status, sink) = answer(&rt, rt.alloc(), longer.as_bytes(), ROOM, ROOM, &[], &[])?;
     has_text(
         &rt,
         &sink,

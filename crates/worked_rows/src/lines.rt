@@ -88,7 +88,7 @@ pub const LINES: [Row; 9] = [
          end\n\
          end x\n\
          Load\n\
-         fold\n\
+         subfaces\n\
          peek x\n",
         "refused wrongcount\n\
          refused wrongcount\n\
@@ -115,7 +115,7 @@ pub const LINES: [Row; 9] = [
          refused unknownword\n\
          refused unknownword\n\
          refused unknownword\n\
-         refused unknownword\n",
+         refused badnumber 1\n",
         1,
     ),
     (
@@ -215,7 +215,7 @@ const LENGTHS: [(&str, &str, usize, &str, &str); 17] = [
 fn a_line_has_a_thousand_bytes_at_most(rt: HostRuntime) -> Result<(), Fail> {
     for (before, word, length, end, replies) in LENGTHS {
         let script = padded(rt.alloc(), before, word, length, end)?;
-        let (status, sink) = answer(rt.alloc(), script.as_slice(), ROOM, ROOM, &[], &[])?;
+        let (status, sink) = answer(&rt, rt.alloc(), script.as_slice(), ROOM, ROOM, &[], &[])?;
         has_text(&rt, &sink, replies, word);
         let refused = u8::from(replies.starts_with("refused"));
         assert_eq!(rt; status, refused, "{word} {length}");

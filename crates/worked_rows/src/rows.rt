@@ -4,11 +4,12 @@ use crate::blocks::BLOCKS;
 use crate::changes::{CHANGES, MERGES, SHEETS};
 use crate::checks::CHECKS;
 use crate::creases::CREASES;
+use crate::folding::FOLDINGS;
 use crate::lines::LINES;
 use crate::runs::{Row, all_meet};
 use std::test::Fail;
 
-const COMMANDS: [Row; 16] = [
+const COMMANDS: [Row; 14] = [
     ("", "", 0),
     ("2 0 -200 0 200\n", "version 1 pieces 1\n", 0),
     (
@@ -48,7 +49,7 @@ const COMMANDS: [Row; 16] = [
         "version 1 pieces 1\n\
          version 2 pieces 4\n\
          version 3 pieces 5\n\
-         refused unknownword\n\
+         refused notconvex 0 0 2\n\
          version 2 pieces 4\n\
          version 1 pieces 1\n\
          version 0 pieces 0\n\
@@ -77,27 +78,6 @@ const COMMANDS: [Row; 16] = [
         "refused notexact 1\n\
          version 1 pieces 1\n\
          refused outofrange 1\n",
-        1,
-    ),
-    (
-        "2 0 0 0 0\n\
-         2 0 0 100 50\n\
-         1 0 0 100 0\n\
-         2 0 0 300 0\n\
-         2 -200 -200 200 -200\n\
-         delete 0 0 1 0\n\
-         9 0 0 1 1\n\
-         fly\n\
-         undo 3\n",
-        "refused zerolength\n\
-         refused baddirection\n\
-         refused edgeoffborder\n\
-         refused outsidesheet\n\
-         refused onborder\n\
-         refused nosuchpiece\n\
-         refused badkind\n\
-         refused unknownword\n\
-         refused wrongcount\n",
         1,
     ),
     (
@@ -152,15 +132,6 @@ const COMMANDS: [Row; 16] = [
          2 0 -200 0 200\n\
          4 -200 0 200 0\n",
         0,
-    ),
-    (
-        "sheet 0 0 0 100 100 0\n\
-         sheet 0 0 100 0 0 100\n\
-         2 0 0 50 50\n",
-        "refused badsheet 1\n\
-         version 1 pieces 0\n\
-         version 2 pieces 1\n",
-        1,
     ),
     (
         "load\n\
@@ -543,5 +514,6 @@ fn answers_each_row(rt: HostRuntime) -> Result<(), Fail> {
     all_meet(&rt, alloc, &SHEETS)?;
     all_meet(&rt, alloc, &CHECKS)?;
     all_meet(&rt, alloc, &BLOCKS)?;
+    all_meet(&rt, alloc, &FOLDINGS)?;
     Ok(())
 }

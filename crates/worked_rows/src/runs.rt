@@ -7,6 +7,7 @@ use oriedita_io::{Failed, MemSink, MemSource, Sink};
 use std::alloc::{AllocError, Global};
 use std::process::Abort;
 use std::str;
+use std::thread::Threads;
 
 /// The room of a sink that no run of these tables fills.
 pub const ROOM: usize = 65_536;
@@ -63,7 +64,8 @@ impl Sink for CountedSink {
 /// Runs a script without words. The source and the sink pass on at most `most` bytes a call, the sink takes `room`
 /// bytes in all, and the listed calls of each fail, counted from 1. The answer is the exit status, and the sink as it
 /// was left.
-pub fn answer(
+pub fn answer<R: Threads + Sync>(
+    rt: &R,
     alloc: Global,
     script: &[u8],
     most: usize,
@@ -78,7 +80,7 @@ pub fn answer(
     let mut source = MemSource::new(script, most, failing_reads.to_vec(alloc)?);
     let sink = MemSink::new(alloc, most, room, failing_writes.to_vec(alloc)?)?;
     let mut sink = CountedSink::new(sink);
-    let ended = run(alloc, words.as_slice(), &mut source, &mut sink);
+    let ended = run(rt, alloc, words.as_slice(), &mut source, &mut sink);
     Ok((ended.status, sink))
 }
 
@@ -88,11 +90,16 @@ pub fn has_text(rt: &impl Abort, sink: &CountedSink, replies: &str, script: &str
     assert_eq!(rt; taken, replies, "the replies to {script}");
 }
 
-fn row_by(rt: &impl Abort, alloc: Global, row: Row, most: usize) -> Result<(), AllocError>
+fn row_by<R: Abort + Threads + Sync>(
+    rt: &R,
+    alloc: Global,
+    row: Row,
+    most: usize,
+) -> Result<(), AllocError>
     requires { 1 ≤ most }
 {
     let (script, replies, status) = row;
-    let (ended, sink) = answer(alloc, script.as_bytes(), most, ROOM, &[], &[])?;
+    let (ended, sink) = answer(rt, alloc, script.as_bytes(), most, ROOM, &[], &[])?;
     has_text(rt, &sink, replies, script);
     assert_eq!(rt; ended, status, "the status of {script}");
     assert!(rt; sink.finished_once(), "{script}");
@@ -100,7 +107,11 @@ fn row_by(rt: &impl Abort, alloc: Global, row: Row, most: usize) -> Result<(), A
 }
 
 /// Runs each script with large reads and writes, and one byte at a time, and compares both runs with its row.
-pub fn all_meet(rt: &impl Abort, alloc: Global, rows: &[Row]) -> Result<(), AllocError> {
+pub fn all_meet<R: Abort + Threads + Sync>(
+    rt: &R,
+    alloc: Global,
+    rows: &[Row],
+) -> Result<(), AllocError> {
     for row in rows {
         row_by(rt, alloc, *row, ROOM)?;
         row_by(rt, alloc, *row, 1)?;
