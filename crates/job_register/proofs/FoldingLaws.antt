@@ -65,33 +65,33 @@ opened_in_record : (most : ℕ) (es before after : List Event) (number version f
     → IsOpenedIn most es before after number version
 opened_in_record most es before after number version faces pairs legal cut =
     let e : Event = Made Fold (reply.Job number version faces pairs) in
-    let whole : Lead (first_state most) (before ++ e ∷ after) legal.0 =
-    subst (λ fs. Lead (first_state most) fs legal.0) cut legal.1 in
-    let parts = lead_split (first_state most) legal.0 before (e ∷ after) whole in
+    let whole : Lead (first_state most) (before ++ e ∷ after) legal.state =
+    subst (λ fs. Lead (first_state most) fs legal.state) cut legal.leads in
+    let parts = lead_split (first_state most) legal.state before (e ∷ after) whole in
     let s : State = parts.0 in
     let n : State = parts.2.0 in
     let job : IsJobOn s number version faces pairs n = parts.2.1.2 in
     let front = told_lead (first_state most) s before parts.1 in
-    let back = told_lead n legal.0 after parts.2.2 in
+    let back = told_lead n legal.state after parts.2.2 in
     let opens : Tells s.jobs n.jobs (e ∷ []) (Open number version job.layers.rules ∷ []) =
     subst (λ (u : State). Tells s.jobs u.jobs (e ∷ []) (Open number version job.layers.rules ∷ []))
     (sym job.opens)
     (tells_opened s.jobs Fold number version faces pairs job.layers.rules job.number_is job.room) in
-    let later : Tells s.jobs legal.0.jobs (e ∷ after) (Open number version job.layers.rules ∷ back.0) =
-    tells_both s.jobs n.jobs legal.0.jobs (e ∷ []) after (Open number version job.layers.rules ∷ []) back.0
+    let later : Tells s.jobs legal.state.jobs (e ∷ after) (Open number version job.layers.rules ∷ back.0) =
+    tells_both s.jobs n.jobs legal.state.jobs (e ∷ []) after (Open number version job.layers.rules ∷ []) back.0
     opens back.1 in
-    let all = tells_both (no_jobs most) s.jobs legal.0.jobs before (e ∷ after) front.0
+    let all = tells_both (no_jobs most) s.jobs legal.state.jobs before (e ∷ after) front.0
     (Open number version job.layers.rules ∷ back.0) front.1 later in
     record {
       state = s;
       lead = parts.1;
-      last = legal.0;
+      last = legal.state;
       layers = job.layers;
       version_is = job.version_is;
       layers_are = job.layers_are;
       front = front.0;
       back = back.0;
-      tells = subst (λ fs. Tells (no_jobs most) legal.0.jobs fs
+      tells = subst (λ fs. Tells (no_jobs most) legal.state.jobs fs
           (front.0 ++ Open number version job.layers.rules ∷ back.0)) (sym cut) all;
     }
 

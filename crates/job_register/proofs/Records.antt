@@ -233,4 +233,4 @@ commands_posted es x accepted =
     commands_in-append es (Posted x accepted ∷ []) ∙ append-nil (commands_in es)
 
 pub legal_kept : (s : State) (es : List Event) (refused : Bool) → Keeps s refused es → IsLegal s.jobs.most es
-legal_kept s es refused kept = (s, kept.leads)
+legal_kept s es refused kept = record { state = s; leads = kept.leads }

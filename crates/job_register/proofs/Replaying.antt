@@ -77,7 +77,7 @@ replayed_from s t (Made command reply ∷ es) h =
         rw yes (rw e (ap₂ (λ r (fs : List Event). Made command r ∷ fs) told rest))
 
 pub legal_edits_are_replayed : LegalEditsAreReplayed
-legal_edits_are_replayed most es legal = replayed_from (first_state most) legal.0 es legal.1
+legal_edits_are_replayed most es legal = replayed_from (first_state most) legal.state es legal.leads
 
 pub first_row : FirstRow
 unfolding first_journal add_of direction_of cuts_of parts_of delete_of set_of merge_of is_loose next_piece

@@ -235,7 +235,7 @@ pub undo_brings_back : UndoBringsBack
 undo_brings_back most es command reply other legal change accepted =
     let j = journal_after es in
     let two : List Event = Made command reply ∷ Made Undo other ∷ [] in
-    let parts = lead_split (first_state most) legal.0 es two legal.1 in
+    let parts = lead_split (first_state most) legal.state es two legal.leads in
     let s : State = parts.0 in
     let here : s.journal ≡ j = lead_journal (first_state most) s es parts.1 in
     let made = changes j command change in
@@ -266,7 +266,7 @@ pub redo_goes_back : RedoGoesBack
 redo_goes_back most es reply other legal accepted =
     let j = journal_after es in
     let two : List Event = Made Undo reply ∷ Made Redo other ∷ [] in
-    let parts = lead_split (first_state most) legal.0 es two legal.1 in
+    let parts = lead_split (first_state most) legal.state es two legal.leads in
     let s : State = parts.0 in
     let here : s.journal ≡ j = lead_journal (first_state most) s es parts.1 in
     let step = parts.2 in

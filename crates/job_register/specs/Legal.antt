@@ -25,8 +25,9 @@ Lead s (e ∷ es) t = (m : State) × IsStep s e m × Lead m es t
 
 -- a record of a session whose jobs may have so many pieces: each reply is the machine's, in the state that the
 -- events before it lead to
-abbrev pub IsLegal : ℕ → List Event → Type 0
-IsLegal most es = (t : State) × Lead (first_state most) es t
+pub record IsLegal (most : ℕ) (es : List Event) : Type 0 where
+  pub state : State
+  pub leads : Lead (first_state most) es state
 
 abbrev pub is_accepted : Taken → Bool
 is_accepted Accepted = true

@@ -202,6 +202,7 @@ impl Session {
     /// What a piece of a job has still to answer in the open ask, if the job is there and was not cancelled.
     pub fn task(&self, job: u32, piece: u32) -> Result<Option<Task>, AllocError>
         ensures task { IfOk result (λ task. option_map task_of task ≡ task_in self.now.state.jobs job piece) }
+        ensures job { IfOk result (λ task. IfSome task (λ t. t.job ≡ job)) }
         ensures right { IfOk result (λ task. IfSome task (λ t. (x : Outcome) → IsRightOutcome (task_of t) x
             → IsRightWhereLive self.now.state.jobs x)) }
         ensures answers { IfOk result (λ task. IfSome task (λ t. (x : Outcome) → IsRightOutcome (task_of t) x

@@ -66,11 +66,12 @@ returns-clause-legal c =
     search rules in
     let pushed : c.push.new.self.items ≡ es ++ Posted (settled x) (is_accepted c.post-taken.result) ∷ [] =
     first ∙ ap (λ (y : Outcome). es ++ Posted y c.was_accepted-accepted.result ∷ []) c.in_ok-kept.ensures
-    ∙ ap (λ (b : Bool). es ++ Posted (settled x) b ∷ []) c.was_accepted-accepted.ensures in (
-      t,
-      rw pushed (keeps_posted s t es (settled x) (is_accepted c.post-taken.result) c.self.inside.refused
-          c.self.invariant.kept taken).leads,
-    )
+    ∙ ap (λ (b : Bool). es ++ Posted (settled x) b ∷ []) c.was_accepted-accepted.ensures in
+    record {
+      state = t;
+      leads = rw pushed (keeps_posted s t es (settled x) (is_accepted c.post-taken.result)
+          c.self.inside.refused c.self.invariant.kept taken).leads;
+    }
 
 pub returns-clause-text : goal.returns-clause-text
 returns-clause-text c =

@@ -34,7 +34,7 @@ returns-clause-legal g c =
     let kept = keeps_on s t es e c.self.inside.refused c.self.invariant.kept
     (c.requires.condition, ready, c.in_ok-reply.ensures.ok) in
     let pushed : c.push.new.self.items ≡ es ++ e ∷ [] = search rules in
-    (t, rw pushed kept.leads)
+    record { state = t; leads = rw pushed kept.leads }
 
 pub returns-clause-most : goal.returns-clause-most
 returns-clause-most g c =
