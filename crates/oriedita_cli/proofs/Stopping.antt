@@ -9,17 +9,17 @@ use Rattle.job_register.specs.Legal.{commands_in}
 use Rattle.job_register.specs.Text.{text_of}
 use Rattle.oriedita_cli.specs.Serving.{Serves, StopsIn}
 
--- before the first command
-pub stops_at_once : (es : List Event) (taken : Option (List ℕ)) (commands : List Command)
-    → StopsIn es es taken taken commands
-stops_at_once es taken commands = record {
+-- before the first command; what was posted meanwhile has no command and no text
+pub stops_before : (es fs : List Event) (taken : Option (List ℕ)) (commands : List Command)
+    → commands_in fs ≡ commands_in es → text_of fs ≡ text_of es → StopsIn es fs taken taken commands
+stops_before es fs taken commands same quiet = record {
   ran = [];
   left = commands;
   front = refl;
-  commands_are = sym (append-nil (commands_in es));
+  commands_are = same ∙ sym (append-nil (commands_in es));
   text = [];
   unwritten = [];
-  text_is = sym (append-nil (text_of es));
+  text_is = quiet ∙ sym (append-nil (text_of es));
   written = Appends-nil taken;
 }
 

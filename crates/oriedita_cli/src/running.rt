@@ -42,6 +42,7 @@ pub const NO_MEMORY: u8 = 6;
 pub(crate) fn ended_without(alloc: Global, status: u8) -> Ended
     ensures status { result.status ≡ status }
     ensures events { events_of result.events ≡ [] }
+    ensures legal { IsLegal 1 (events_of result.events) }
 {
     Ended {
         status,
@@ -79,7 +80,10 @@ fn finish<K: Sink>(session: Session, out: &mut K) -> Ended
 // Answers the commands in a new session, and writes the replies.
 fn run_commands<R: Threads + Sync, K: Sink>(
     rt: &R,
-    alloc: Global, commands: Commands, out: &mut K) -> Ended
+    alloc: Global,
+    commands: Commands,
+    out: &mut K,
+) -> Ended
     ensures legal { IsLegal 1 (events_of result.events) }
     ensures input { IsAnswered result.status (events_of result.events) commands }
     ensures output { IsOutput result.status (events_of result.events) (K.taken out.old) (K.taken out.new)
@@ -108,6 +112,7 @@ fn run_commands<R: Threads + Sync, K: Sink>(
 // A read fault before the end: no command is run, and the output is finished.
 fn run_nothing<K: Sink>(alloc: Global, out: &mut K) -> Ended
     ensures events { events_of result.events ≡ [] }
+    ensures legal { IsLegal 1 (events_of result.events) }
     ensures bytes { Keeps (K.taken out.old) (K.taken out.new) }
     ensures status { (result.status ≡ READ_FAILED) ⊎ (result.status ≡ WRITE_FAILED) }
     ensures finished { result.status ≡ READ_FAILED → Tells (K.finished out.new) true }
@@ -120,10 +125,7 @@ fn run_nothing<K: Sink>(alloc: Global, out: &mut K) -> Ended
     }
 }
 
-fn run_bytes<R: Threads + Sync, K: Sink>(
-    rt: &R,
-    alloc: Global,
-    bytes: &[u8], out: &mut K) -> Ended
+fn run_bytes<R: Threads + Sync, K: Sink>(rt: &R, alloc: Global, bytes: &[u8], out: &mut K) -> Ended
     requires { length bytes.now ≤ script_limit }
     ensures legal { IsLegal 1 (events_of result.events) }
     ensures input { IsAnswered result.status (events_of result.events) (commands_of bytes.now) }
@@ -140,10 +142,7 @@ fn run_bytes<R: Threads + Sync, K: Sink>(
     }
 }
 
-fn run_input<R: Threads + Sync, K: Sink>(
-    rt: &R,
-    alloc: Global,
-    input: &Input, out: &mut K) -> Ended
+fn run_input<R: Threads + Sync, K: Sink>(rt: &R, alloc: Global, input: &Input, out: &mut K) -> Ended
     requires { (input.now.end ≡ InputEnd.More) ↔ (script_limit < length input.now.bytes.items) }
     ensures legal { IsLegal 1 (events_of result.events) }
     ensures input { IsInput result.status (events_of result.events) input.now.bytes.items }

@@ -40,16 +40,16 @@ pub fn serve<R: Threads + Sync, K: Sink>(
     ensures cause { result ≡ Err Stop.Write → Rose (K.faults out.old) (K.faults out.new) }
     ensures faults_stay { K.faults out.old ≤ K.faults out.new }
 {
-    if prepare(alloc, session, &command).is_err() {
+    let Ok(()) = prepare(alloc, session, &command) else {
         return Err(Stop::Memory);
-    }
-    if session.step(rt, alloc, command).is_err() {
+    };
+    let Ok(()) = session.step(rt, alloc, command) else {
         return Err(Stop::Memory);
-    }
+    };
     text.clear();
-    if session.write_last(text).is_err() {
+    let Ok(()) = session.write_last(text) else {
         return Err(Stop::Memory);
-    }
+    };
     match write_all(out, text.as_slice()) {
         Ok(()) => Ok(()),
         Err(Failed) => Err(Stop::Write),

@@ -1,4 +1,5 @@
-use Rattle.std.proofs.Common.{arith, inr, ◌≡◌}
+use Rattle.std.proofs.Common.{arith, inr, ◌≡◌, []}
+use Rattle.std.proofs.KnownBytes.{Consumes-nil}
 use Rattle.oriedita_cli.proofs.Unanswered.{none_read}
 use Rattle.oriedita_cli.proofs.running.run.Goals as goal
 
@@ -12,4 +13,15 @@ returns-in-Err-clause-input g c =
           (omega (arith, status)) c.ended_without-in-Err.ensures.events
           (λ five. absurd (omega (arith, five, status)))
           (λ _. inr status),
+    )
+
+pub returns-then-not-is_empty-clause-input : goal.returns-then-not-is_empty-clause-input
+returns-then-not-is_empty-clause-input g c =
+    let status : c.ended_without.result.status ≡ 2 = c.ended_without.ensures.status in (
+      [],
+      Consumes-nil (g.S.Source.left c.args.script.now),
+      none_read c.ended_without.result.status c.ended_without.result.events.list.items []
+          (omega (arith, status)) c.ended_without.ensures.events
+          (λ five. absurd (omega (arith, five, status)))
+          (λ long. absurd (omega (arith, long))),
     )

@@ -1,4 +1,8 @@
-use Rattle.std.proofs.Common.{arith}
+use Rattle.std.proofs.Common.{◌≡◌, ◌++◌, [], List, ap, ◌∙◌, arith}
+use Rattle.job_register.specs.declared.session.Event.{Event}
+use Rattle.job_register.specs.Text.{text_of}
+use Rattle.job_register.specs.View.{SessionView}
+use Rattle.oriedita_cli.proofs.Outputs.{finished_output}
 use Rattle.oriedita_cli.proofs.Unanswered.{none_answered}
 use Rattle.oriedita_cli.proofs.running.run_commands.Goals as goal
 
@@ -6,3 +10,15 @@ pub returns-in_default-clause-input : goal.returns-in_default-clause-input
 returns-in_default-clause-input g c =
     none_answered c.ended_without.result.status c.ended_without.result.events.list.items c.args.commands
     (omega arith) c.ended_without.ensures.events
+
+pub returns-in-Ok-serve_all-clause-output : goal.returns-in-Ok-serve_all-clause-output
+returns-in-Ok-serve_all-clause-output g c =
+    let served = c.in-Ok-serve_all.ensures.serves in
+    let es = c.serve_all.new.session.events in
+    let begins : c.in-Ok.session.events ≡ [] = ap (λ (v : SessionView). v.events) c.in-Ok.ensures in
+    let text : text_of es ≡ served.text =
+    served.text_is ∙ ap (λ (fs : List Event). text_of fs ++ served.text) begins in
+    finished_output c.finish.result.status c.finish.result.events.list.items es
+    (g.K.Sink.taken c.args.out.now) (g.K.Sink.taken c.serve_all.new.out) (g.K.Sink.taken c.finish.new.out)
+    (g.K.Sink.finished c.finish.new.out) served.text c.finish.ensures.events text served.written
+    c.finish.ensures.bytes c.finish.ensures.status c.finish.ensures.finished

@@ -1,4 +1,4 @@
-use Rattle.std.proofs.Common.{◌≡◌, true, ◌∷◌, [], ◌++◌, List, append_assoc, sym, ap, subst, ◌∙◌, arith}
+use Rattle.std.proofs.Common.{◌≡◌, true, ◌∷◌, [], ◌++◌, List, append_assoc, refl, sym, ap, subst, ◌∙◌, arith}
 use Rattle.std.specs.List.{list_all}
 use Rattle.std.proofs.lemmas.Bool.{and_parts}
 use Rattle.script_lang.specs.declared.command.Command.{Command}
@@ -12,15 +12,18 @@ loop-command-init g c = record {
   split = sym c.into_iter-command-iterator.ensures.into_iter_gives.0;
   condition = subst (λ (xs : List Command). list_all meets_condition xs ≡ true)
       (sym c.into_iter-command-iterator.ensures.into_iter_gives.0) c.requires;
-  served = serves_none c.args.session.now (g.K.Sink.taken c.args.out.now);
+  served = serves_none c.args.session.now.events (g.K.Sink.taken c.args.out.now);
+  most = refl;
   faults = omega arith;
 }
 
 pub serve-requires : goal.serve-requires
-serve-requires g c =
-    (and_parts (meets_condition c.in-Some.command) _
-    (subst (λ (xs : List Command). list_all meets_condition xs ≡ true) c.in-Some.ensures.steps.0
-    c.loop-command.invariant.condition)).0
+serve-requires g c = (
+  c.type_bounds.sync-R,
+  (and_parts (meets_condition c.in-Some.command) _
+      (subst (λ (xs : List Command). list_all meets_condition xs ≡ true) c.in-Some.ensures.steps.0
+      c.loop-command.invariant.condition)).0,
+)
 
 pub loop-command-preserved : goal.loop-command-preserved
 loop-command-preserved g c =
@@ -33,20 +36,21 @@ loop-command-preserved g c =
       condition = (and_parts (meets_condition command) _
           (subst (λ (xs : List Command). list_all meets_condition xs ≡ true) steps
           c.loop-command.invariant.condition)).1;
-      served = serves_both c.args.session.now c.loop-command.session c.serve.new.session
+      served = serves_both c.args.session.now.events c.loop-command.session.events c.serve.new.session.events
           (taken c.args.out.now) (taken c.loop-command.out) (taken c.serve.new.out)
           c.loop-command.yielded (command ∷ []) c.loop-command.invariant.served c.in-Ok.ensures.serves;
+      most = c.serve.ensures.most ∙ c.loop-command.invariant.most;
       faults = omega (arith, c.loop-command.invariant.faults, c.in-Ok.ensures.faults_stay);
     }
 
 pub returns-in-Err-clause-serves : goal.returns-in-Err-clause-serves
 returns-in-Err-clause-serves g c =
     let taken = g.K.Sink.taken in
-    subst (λ (xs : List Command). StopsIn c.args.session.now c.serve.new.session (taken c.args.out.now)
+    subst (λ (xs : List Command). StopsIn c.args.session.now.events c.serve.new.session.events (taken c.args.out.now)
     (taken c.serve.new.out) xs)
     (sym (c.loop-command.invariant.split
     ∙ ap (λ (xs : List Command). c.loop-command.yielded ++ xs) c.in-Some.ensures.steps.0))
-    (serves_then_stops c.args.session.now c.loop-command.session c.serve.new.session (taken c.args.out.now)
+    (serves_then_stops c.args.session.now.events c.loop-command.session.events c.serve.new.session.events (taken c.args.out.now)
     (taken c.loop-command.out) (taken c.serve.new.out)
     c.loop-command.yielded
     (c.in-Some.command ∷ []) c.next.new.self.rest.items c.loop-command.invariant.served

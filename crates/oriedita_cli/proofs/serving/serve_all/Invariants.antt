@@ -8,6 +8,7 @@ abbrev pub invariant-loop-command : goal.invariant-loop-command
 invariant-loop-command g l = record {
   split : l.fn.commands.items ≡ l.yielded ++ l.command-iterator.rest.items;
   condition : IsTrue (list_all meets_condition l.command-iterator.rest.items);
-  served : Serves l.fn.session l.session (g.K.Sink.taken l.fn.out) (g.K.Sink.taken l.out) l.yielded;
+  served : Serves l.fn.session.events l.session.events (g.K.Sink.taken l.fn.out) (g.K.Sink.taken l.out) l.yielded;
+  most : l.session.state.jobs.most ≡ l.fn.session.state.jobs.most;
   faults : g.K.Sink.faults l.fn.out ≤ g.K.Sink.faults l.out;
 }
