@@ -28,7 +28,7 @@ use Rattle.job_register.specs.Machine.{State, first_state, IsJobOn}
 use Rattle.job_register.specs.Layers.{IsLayersOf}
 use Rattle.job_register.specs.Legal.{Lead, IsStep, IsLegal, journal_after}
 use Rattle.job_register.specs.RecordVersions.{version_in}
-use Rattle.job_register.specs.FoldingRecords.{shown_in, closings_in, closings_past, ShowsLayerOrders, RecordsEnumerate, LegalRecordsEnumerate}
+use Rattle.job_register.specs.FoldingRecords.{shown_in, closings_in, closings_past, ShowsLayerOrders, LegalRecordsEnumerate}
 use Rattle.job_register.proofs.Records.{lead_split, lead_journal}
 use Rattle.job_register.proofs.Versions.{versions_stay, current_there}
 use Rattle.job_register.proofs.JobRecords.{Tells, tells_both, tells_opened, told_lead}
@@ -113,8 +113,11 @@ version_is_there most es before rest s lead cut =
     ap (λ fs. version_in fs s.journal.current) cut
     ∙ versions_stay before rest s.journal.current (current_pattern_of s.journal) there
 
-pub records_enumerate : JobsEnumerate → OrdersAreInOrder → LegalRecordsEnumerate
-records_enumerate law all most es legal before after number version faces pairs cut =
+shows_orders : JobsEnumerate → OrdersAreInOrder → (most : ℕ) (es : List Event) → IsLegal most es
+    → (before after : List Event) (number version faces pairs : ℕ)
+    → es ≡ before ++ Made Fold (reply.Job number version faces pairs) ∷ after
+    → ShowsLayerOrders most number version es
+shows_orders law all most es legal before after number version faces pairs cut =
     let o = opened_in_record most es before after number version faces pairs legal cut in
     let e : Event = Made Fold (reply.Job number version faces pairs) in
     let pattern = current_pattern_of o.state.journal in
@@ -133,3 +136,9 @@ records_enumerate law all most es legal before after number version faces pairs 
       enumeration = subst (λ cs. IsEnumeration o.layers.rules most cs)
           (sym (told_closings most number o.last es js o.tells)) shows.enumeration;
     }
+
+pub records_enumerate : JobsEnumerate → OrdersAreInOrder → LegalRecordsEnumerate
+records_enumerate law all most es legal = record {
+  of_each = λ before after number version faces pairs cut.
+      shows_orders law all most es legal before after number version faces pairs cut;
+}

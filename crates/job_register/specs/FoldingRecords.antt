@@ -83,12 +83,11 @@ pub record ShowsLayerOrders (most number version : ℕ) (es : List Event) : Type
   -- "no more" stands behind all of them, and pauses within the open lists between two orders
   pub enumeration : IsEnumeration layers.rules most (closings_in number es)
 
--- each job of a legal record shows the layer orders of the version that it names
-abbrev pub RecordsEnumerate : ℕ → List Event → Type 0
-RecordsEnumerate most es =
-    (before after : List Event) (number version faces pairs : ℕ)
-    → es ≡ before ++ Made Fold (reply.Job number version faces pairs) ∷ after
-    → ShowsLayerOrders most number version es
+-- each job of a record shows the layer orders of the version that it names
+pub record EnumeratesOrders (most : ℕ) (es : List Event) : Type 0 where
+  pub of_each : (before after : List Event) (number version faces pairs : ℕ)
+      → es ≡ before ++ Made Fold (reply.Job number version faces pairs) ∷ after
+      → ShowsLayerOrders most number version es
 
 abbrev pub LegalRecordsEnumerate : Type 0
-LegalRecordsEnumerate = (most : ℕ) (es : List Event) → IsLegal most es → RecordsEnumerate most es
+LegalRecordsEnumerate = (most : ℕ) (es : List Event) → IsLegal most es → EnumeratesOrders most es

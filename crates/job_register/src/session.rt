@@ -6,6 +6,7 @@ ghost use Rattle.script_lang.specs.declared.reply.Reply.{Reply};
 ghost use Rattle.job_register.specs.Legal.{is_refusal, is_accepted};
 
 use crate::answering::answer_command;
+use crate::laws::records_enumerate;
 use cp_text::{all_or_nothing, write_pattern};
 use crease_model::{Pattern, Sheet};
 use fold_jobs::Jobs;
@@ -107,6 +108,7 @@ impl Session {
     ghost use Rattle.job_register.specs.Machine.{first_state, IsReady, IsAnswered};
     ghost use Rattle.job_register.specs.Legal.{IsLegal, journal_after, commands_in, has_refusal};
     ghost use Rattle.job_register.specs.RecordVersions.{KeepsVersions};
+    ghost use Rattle.job_register.specs.FoldingRecords.{EnumeratesOrders};
     ghost use Rattle.job_register.specs.Text.{text_of, last_text, text_at, reply_text, body_text, listing_text, checks_text};
 
     /// A session over version 0, the square sheet with nothing on it. A job is searched in at most `most` pieces.
@@ -296,7 +298,9 @@ impl Session {
     pub fn events(&self) -> &Record
         ensures events { events_of result.now ≡ self.now.events }
         ensures legal { IsLegal self.now.state.jobs.most self.now.events }
+        ensures enumeration { EnumeratesOrders self.now.state.jobs.most self.now.events }
     {
+        records_enumerate();
         &self.record
     }
 
@@ -304,7 +308,9 @@ impl Session {
     pub fn finish(self) -> Record
         ensures events { events_of result ≡ self.events }
         ensures legal { IsLegal self.state.jobs.most self.events }
+        ensures enumeration { EnumeratesOrders self.state.jobs.most self.events }
     {
+        records_enumerate();
         self.record
     }
 }

@@ -7,11 +7,13 @@ ghost use Rattle.std.specs.Process.{exit_status};
 ghost use Rattle.std.specs.Vec.Iter.{into_iter_len};
 ghost use Rattle.oriedita_io.specs.Faults.{Rose};
 ghost use Rattle.job_register.specs.View.{events_of};
+ghost use Rattle.job_register.specs.FoldingRecords.{EnumeratesOrders};
 ghost use Rattle.job_register.specs.Legal.{IsLegal};
 ghost use Rattle.oriedita_cli.specs.Clauses.{IsInput, IsOutput, ended_status};
 ghost use Rattle.oriedita_cli.specs.Words.{HasWords};
 
 use crate::running::{BAD_WORDS, Ended, NO_MEMORY, READ_FAILED, WRITE_FAILED, ended_without, run};
+use job_register::laws::records_enumerate;
 use oriedita_io::{Sink, Source, StdinSource, StdoutSink};
 use std::alloc::{AllocError, Global};
 use std::env::Args;
@@ -60,6 +62,9 @@ pub fn run_arguments<R: Threads + Sync, S: Source, K: Sink>(
     // The record clause.
     ensures legal { IsLegal 1 (events_of result.events) }
 
+    // The enumeration clause: each folding job shows the layer orders of the version that it names.
+    ensures enumeration { EnumeratesOrders 1 (events_of result.events) }
+
     // The input clause.
     ensures input { (bytes : List ℕ) × Consumes (S.left script.old) (S.left script.new) bytes
         × IsInput result.status (events_of result.events) bytes }
@@ -81,6 +86,7 @@ pub fn run_arguments<R: Threads + Sync, S: Source, K: Sink>(
     ensures source_faults_stay { S.faults script.old ≤ S.faults script.new }
     ensures sink_faults_stay { K.faults out.old ≤ K.faults out.new }
 {
+    records_enumerate();
     match words_of(alloc, arguments) {
         Ok(words) => run(rt, alloc, words.as_slice(), script, out),
         Err(_) => ended_without(alloc, NO_MEMORY),

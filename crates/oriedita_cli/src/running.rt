@@ -6,10 +6,12 @@ ghost use Rattle.oriedita_io.specs.Faults.{Rose};
 ghost use Rattle.oriedita_io.specs.Told.{Tells};
 ghost use Rattle.script_lang.specs.Script.{commands_of};
 ghost use Rattle.job_register.specs.View.{events_of};
+ghost use Rattle.job_register.specs.FoldingRecords.{EnumeratesOrders};
 ghost use Rattle.job_register.specs.Legal.{IsLegal, has_refusal};
 ghost use Rattle.oriedita_cli.specs.Clauses.{IsAnswered, IsInput, IsOutput, ended_status, script_limit};
 
 use crate::serving::{Stop, serve_all};
+use job_register::laws::records_enumerate;
 use job_register::{Record, Session};
 use oriedita_io::{Failed, Input, InputEnd, LONGEST_INPUT, Sink, Source, read_all};
 use script_lang::{Commands, read_script};
@@ -175,6 +177,9 @@ pub fn run<R: Threads + Sync, S: Source, K: Sink>(
     // The record clause.
     ensures legal { IsLegal 1 (events_of result.events) }
 
+    // The enumeration clause: each folding job shows the layer orders of the version that it names.
+    ensures enumeration { EnumeratesOrders 1 (events_of result.events) }
+
     // The input clause.
     ensures input { (bytes : List ℕ) × Consumes (S.left script.old) (S.left script.new) bytes
         × IsInput result.status (events_of result.events) bytes }
@@ -194,6 +199,7 @@ pub fn run<R: Threads + Sync, S: Source, K: Sink>(
     ensures source_faults_stay { S.faults script.old ≤ S.faults script.new }
     ensures sink_faults_stay { K.faults out.old ≤ K.faults out.new }
 {
+    records_enumerate();
     if !words.is_empty() {
         return ended_without(alloc, BAD_WORDS);
     }

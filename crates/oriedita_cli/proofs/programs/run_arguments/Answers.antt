@@ -14,3 +14,7 @@ returns-in-Err-clause-input g c =
           (λ five. absurd (omega (arith, five, status)))
           (λ _. inr status),
     )
+
+pub returns-in-Err-clause-enumeration : goal.returns-in-Err-clause-enumeration
+returns-in-Err-clause-enumeration g c =
+    c.records_enumerate.ensures 1 c.ended_without.result.events.list.items c.ended_without.ensures.legal

@@ -25,3 +25,16 @@ returns-then-not-is_empty-clause-input g c =
           (λ five. absurd (omega (arith, five, status)))
           (λ long. absurd (omega (arith, long))),
     )
+
+pub returns-then-not-is_empty-clause-enumeration : goal.returns-then-not-is_empty-clause-enumeration
+returns-then-not-is_empty-clause-enumeration g c =
+    c.records_enumerate.ensures 1 c.ended_without.result.events.list.items c.ended_without.ensures.legal
+
+pub returns-in-Err-clause-enumeration : goal.returns-in-Err-clause-enumeration
+returns-in-Err-clause-enumeration g c =
+    c.records_enumerate.ensures 1 c.ended_without-in-Err.result.events.list.items
+    c.ended_without-in-Err.ensures.legal
+
+pub returns-in-Ok-clause-enumeration : goal.returns-in-Ok-clause-enumeration
+returns-in-Ok-clause-enumeration g c =
+    c.records_enumerate.ensures 1 c.run_input.result.events.list.items c.run_input.ensures.legal

@@ -1,4 +1,5 @@
 use Rattle.std.proofs.Common.{subst}
+use Rattle.job_register.specs.FoldingRecords.{EnumeratesOrders}
 use Rattle.job_register.specs.Legal.{IsLegal}
 use Rattle.job_register.specs.View.{SessionView}
 use Rattle.job_register.proofs.Records.{legal_kept}
@@ -10,3 +11,10 @@ returns-clause-legal c =
     subst (λ (v : SessionView). IsLegal v.state.jobs.most v.events) c.self.view_is
     (legal_kept (state_with c.self.inside.journal c.self.inside.jobs) c.self.inside.record.list.items
     c.self.inside.refused c.self.invariant.kept)
+
+pub returns-clause-enumeration : goal.returns-clause-enumeration
+returns-clause-enumeration c =
+    subst (λ (v : SessionView). EnumeratesOrders v.state.jobs.most v.events) c.self.view_is
+    (c.records_enumerate.ensures c.self.inside.jobs.most c.self.inside.record.list.items
+    (legal_kept (state_with c.self.inside.journal c.self.inside.jobs) c.self.inside.record.list.items
+    c.self.inside.refused c.self.invariant.kept))
