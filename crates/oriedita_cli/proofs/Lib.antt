@@ -1,3 +1,5 @@
+pub mod Cutting
+pub mod Inputs
 pub mod Outputs
 pub mod Stopping
 pub mod Unanswered

@@ -10,7 +10,7 @@ use Rattle.job_register.specs.Legal.{has_refusal}
 use Rattle.job_register.specs.Text.{text_of}
 use Rattle.oriedita_cli.specs.Clauses.{IsOutput, ended_status}
 
-ended_below : (es : List Event) → ended_status es < 2
+pub ended_below : (es : List Event) → ended_status es < 2
 ended_below es = elim (cases_Bool (has_refusal es)) [
   | inl some ↦ rw some (omega arith)
   | inr none ↦ rw none (omega arith)

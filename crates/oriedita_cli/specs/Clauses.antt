@@ -1,12 +1,14 @@
 -- The clauses of the top call, by its exit status.
 use Rattle.std.specs.Prelude.{◌≡◌, ℕ, ◌<◌, ◌⊎◌, Bool, true, List, [], ◌++◌, Option, length, if◌then◌else◌}
 use Rattle.std.specs.Io.KnownBytes.{Appends, Keeps}
+use Rattle.oriedita_io.specs.Faults.{Rose}
 use Rattle.oriedita_io.specs.Told.{Tells}
 use Rattle.script_lang.specs.declared.command.Command.{Command}
 use Rattle.script_lang.specs.Script.{commands_of}
 use Rattle.job_register.specs.declared.session.Event.{Event}
 use Rattle.job_register.specs.Legal.{commands_in, has_refusal}
 use Rattle.job_register.specs.Text.{text_of}
+use Rattle.oriedita_cli.specs.WholeLines.{AreWholeLines}
 
 -- the most bytes that a script has
 abbrev pub script_limit : ℕ
@@ -16,17 +18,23 @@ script_limit = 4194304
 abbrev pub IsFront : {A : Type 0} → List A → List A → Type 0
 IsFront {A} front whole = (rest : List A) × (whole ≡ front ++ rest)
 
--- A record of these commands: all of them at 0 and 1, else the first few.
+-- A record of these commands: all of them at 0, 1 and 3, else the first few.
 pub record IsAnswered (status : ℕ) (events : List Event) (commands : List Command) : Type 0 where
-  pub all : status < 2 → commands_in events ≡ commands
+  pub all : (status < 2) ⊎ (status ≡ 3) → commands_in events ≡ commands
   pub front : IsFront (commands_in events) commands
 
--- The input clause, for the bytes that the script lost.
-pub record IsInput (status : ℕ) (events : List Event) (bytes : List ℕ) : Type 0 where
-  -- the commands of the record are those of the bytes, in order: all of them at 0 and 1, else the first few
-  pub commands : IsAnswered status events (commands_of bytes)
-  -- none at 2, 3 and 5
-  pub none : (status ≡ 2) ⊎ ((status ≡ 3) ⊎ (status ≡ 5)) → events ≡ []
+-- The input clause, for the bytes that the source of the script lost, and its faults before and now.
+pub record IsInput (status : ℕ) (events : List Event) (bytes : List ℕ) (faults faults' : ℕ) : Type 0 where
+  -- the script that counts: all the bytes, or, where a read fault ended them, their whole lines
+  pub script : List ℕ
+  pub counts : (script ≡ bytes) ⊎ (Rose faults faults' × AreWholeLines script bytes)
+  -- it is the former at 0 and 1, and the latter at 3
+  pub whole : status < 2 → script ≡ bytes
+  pub cut : status ≡ 3 → AreWholeLines script bytes
+  -- the commands of the record are those of the script, in order: all of them at 0, 1 and 3, else the first few
+  pub commands : IsAnswered status events (commands_of script)
+  -- none at 2 and 5
+  pub none : (status ≡ 2) ⊎ (status ≡ 5) → events ≡ []
   -- 5 is answered only to too long a script, and to such a script nothing else is, unless memory is refused
   pub long : status ≡ 5 → script_limit < length bytes
   pub too_long : script_limit < length bytes → (status ≡ 5) ⊎ (status ≡ 6)

@@ -1,3 +1,4 @@
 pub mod Serving
+pub mod WholeLines
 pub mod Clauses
 pub mod Words

@@ -2,6 +2,7 @@
 //! written; and the program round it.
 #![tactic(auto)]
 
+mod lines;
 mod programs;
 mod running;
 mod searching;

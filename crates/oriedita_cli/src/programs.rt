@@ -67,7 +67,7 @@ pub fn run_arguments<R: Threads + Sync, S: Source, K: Sink>(
 
     // The input clause.
     ensures input { (bytes : List ℕ) × Consumes (S.left script.old) (S.left script.new) bytes
-        × IsInput result.status (events_of result.events) bytes }
+        × IsInput result.status (events_of result.events) bytes (S.faults script.old) (S.faults script.new) }
     ensures read_to_its_end { result.status < 2 → IsAtEnd (S.left script.new) }
 
     // The output clause.

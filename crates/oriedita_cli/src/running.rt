@@ -9,7 +9,9 @@ ghost use Rattle.job_register.specs.View.{events_of};
 ghost use Rattle.job_register.specs.FoldingRecords.{EnumeratesOrders};
 ghost use Rattle.job_register.specs.Legal.{IsLegal, has_refusal};
 ghost use Rattle.oriedita_cli.specs.Clauses.{IsAnswered, IsInput, IsOutput, ended_status, script_limit};
+ghost use Rattle.oriedita_cli.specs.WholeLines.{AreWholeLines};
 
+use crate::lines::whole_lines;
 use crate::serving::{Stop, serve_all};
 use job_register::laws::records_enumerate;
 use job_register::{Record, Session};
@@ -111,22 +113,6 @@ fn run_commands<R: Threads + Sync, K: Sink>(
     }
 }
 
-// A read fault before the end: no command is run, and the output is finished.
-fn run_nothing<K: Sink>(alloc: Global, out: &mut K) -> Ended
-    ensures events { events_of result.events ≡ [] }
-    ensures legal { IsLegal 1 (events_of result.events) }
-    ensures bytes { Keeps (K.taken out.old) (K.taken out.new) }
-    ensures status { (result.status ≡ READ_FAILED) ⊎ (result.status ≡ WRITE_FAILED) }
-    ensures finished { result.status ≡ READ_FAILED → Tells (K.finished out.new) true }
-    ensures cause { result.status ≡ WRITE_FAILED → Rose (K.faults out.old) (K.faults out.new) }
-    ensures faults_stay { K.faults out.old ≤ K.faults out.new }
-{
-    match out.finish() {
-        Ok(()) => ended_without(alloc, READ_FAILED),
-        Err(Failed) => ended_without(alloc, WRITE_FAILED),
-    }
-}
-
 fn run_bytes<R: Threads + Sync, K: Sink>(rt: &R, alloc: Global, bytes: &[u8], out: &mut K) -> Ended
     requires { length bytes.now ≤ script_limit }
     ensures legal { IsLegal 1 (events_of result.events) }
@@ -144,10 +130,39 @@ fn run_bytes<R: Threads + Sync, K: Sink>(rt: &R, alloc: Global, bytes: &[u8], ou
     }
 }
 
+// The bytes that a read fault ended: their whole lines are the script.
+fn run_whole_lines<R: Threads + Sync, K: Sink>(
+    rt: &R,
+    alloc: Global,
+    bytes: &[u8],
+    out: &mut K,
+) -> Ended
+    requires { length bytes.now ≤ script_limit }
+    ensures legal { IsLegal 1 (events_of result.events) }
+    ensures input { (script : List ℕ) × AreWholeLines script bytes.now
+        × IsAnswered result.status (events_of result.events) (commands_of script) }
+    ensures output { IsOutput result.status (events_of result.events) (K.taken out.old) (K.taken out.new)
+        (K.finished out.new) }
+    ensures status { (result.status ≡ READ_FAILED)
+        ⊎ ((result.status ≡ WRITE_FAILED) ⊎ (result.status ≡ NO_MEMORY)) }
+    ensures cause { result.status ≡ WRITE_FAILED → Rose (K.faults out.old) (K.faults out.new) }
+    ensures faults_stay { K.faults out.old ≤ K.faults out.new }
+{
+    let ended = run_bytes(rt, alloc, whole_lines(bytes), out);
+    if ended.status > REFUSED {
+        return ended;
+    }
+    Ended {
+        status: READ_FAILED,
+        events: ended.events,
+    }
+}
+
 fn run_input<R: Threads + Sync, K: Sink>(rt: &R, alloc: Global, input: &Input, out: &mut K) -> Ended
     requires { (input.now.end ≡ InputEnd.More) ↔ (script_limit < length input.now.bytes.items) }
     ensures legal { IsLegal 1 (events_of result.events) }
-    ensures input { IsInput result.status (events_of result.events) input.now.bytes.items }
+    ensures input { (faults faults' : ℕ) → (input.now.end ≡ InputEnd.Failed → Rose faults faults')
+        → IsInput result.status (events_of result.events) input.now.bytes.items faults faults' }
     ensures ended { result.status < 2 → input.now.end ≡ InputEnd.Ended }
     ensures failed { result.status ≡ READ_FAILED → input.now.end ≡ InputEnd.Failed }
     ensures output { IsOutput result.status (events_of result.events) (K.taken out.old) (K.taken out.new)
@@ -158,9 +173,10 @@ fn run_input<R: Threads + Sync, K: Sink>(rt: &R, alloc: Global, input: &Input, o
     ensures cause { result.status ≡ WRITE_FAILED → Rose (K.faults out.old) (K.faults out.new) }
     ensures faults_stay { K.faults out.old ≤ K.faults out.new }
 {
+    let bytes = input.bytes.as_slice();
     match input.end {
-        InputEnd::Ended => run_bytes(rt, alloc, input.bytes.as_slice(), out),
-        InputEnd::Failed => run_nothing(alloc, out),
+        InputEnd::Ended => run_bytes(rt, alloc, bytes, out),
+        InputEnd::Failed => run_whole_lines(rt, alloc, bytes, out),
         InputEnd::More => ended_without(alloc, TOO_LONG),
     }
 }
@@ -182,7 +198,7 @@ pub fn run<R: Threads + Sync, S: Source, K: Sink>(
 
     // The input clause.
     ensures input { (bytes : List ℕ) × Consumes (S.left script.old) (S.left script.new) bytes
-        × IsInput result.status (events_of result.events) bytes }
+        × IsInput result.status (events_of result.events) bytes (S.faults script.old) (S.faults script.new) }
     ensures read_to_its_end { result.status < 2 → IsAtEnd (S.left script.new) }
 
     // The output clause.

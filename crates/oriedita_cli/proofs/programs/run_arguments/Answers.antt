@@ -10,7 +10,7 @@ returns-in-Err-clause-input g c =
       [],
       Consumes-nil (g.S.Source.left c.args.script.now),
       none_read c.ended_without.result.status c.ended_without.result.events.list.items []
-          (omega (arith, status)) c.ended_without.ensures.events
+          _ _ (omega (arith, status)) (λ three. omega (arith, three, status)) c.ended_without.ensures.events
           (λ five. absurd (omega (arith, five, status)))
           (λ _. inr status),
     )

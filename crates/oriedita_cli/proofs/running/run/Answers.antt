@@ -10,7 +10,7 @@ returns-in-Err-clause-input g c =
       lost.0,
       lost.2,
       none_read c.ended_without-in-Err.result.status c.ended_without-in-Err.result.events.list.items lost.0
-          (omega (arith, status)) c.ended_without-in-Err.ensures.events
+          _ _ (omega (arith, status)) (λ three. omega (arith, three, status)) c.ended_without-in-Err.ensures.events
           (λ five. absurd (omega (arith, five, status)))
           (λ _. inr status),
     )
@@ -21,7 +21,7 @@ returns-then-not-is_empty-clause-input g c =
       [],
       Consumes-nil (g.S.Source.left c.args.script.now),
       none_read c.ended_without.result.status c.ended_without.result.events.list.items []
-          (omega (arith, status)) c.ended_without.ensures.events
+          _ _ (omega (arith, status)) (λ three. omega (arith, three, status)) c.ended_without.ensures.events
           (λ five. absurd (omega (arith, five, status)))
           (λ long. absurd (omega (arith, long))),
     )
@@ -38,3 +38,7 @@ returns-in-Err-clause-enumeration g c =
 pub returns-in-Ok-clause-enumeration : goal.returns-in-Ok-clause-enumeration
 returns-in-Ok-clause-enumeration g c =
     c.records_enumerate.ensures 1 c.run_input.result.events.list.items c.run_input.ensures.legal
+
+pub returns-in-Ok-clause-input : goal.returns-in-Ok-clause-input
+returns-in-Ok-clause-input g c =
+    (c.in-Ok.input.bytes.items, c.in-Ok.ensures.bytes, c.run_input.ensures.input _ _ c.in-Ok.ensures.cause)

@@ -9,7 +9,7 @@ use Rattle.oriedita_cli.proofs.running.run_commands.Goals as goal
 pub returns-in_default-clause-input : goal.returns-in_default-clause-input
 returns-in_default-clause-input g c =
     none_answered c.ended_without.result.status c.ended_without.result.events.list.items c.args.commands
-    (omega arith) c.ended_without.ensures.events
+    (omega arith) (λ three. omega (arith, three, c.ended_without.ensures.status)) c.ended_without.ensures.events
 
 pub returns-in-Ok-serve_all-clause-output : goal.returns-in-Ok-serve_all-clause-output
 returns-in-Ok-serve_all-clause-output g c =
