@@ -178,7 +178,7 @@ if [ -x "$editor" ]; then
     text zerolength
     text onborder
     all_examples
-    strips 4 8 12 16 20
+    strips 12 16 17 18 19
 else
     echo "script text and examples are left out: the editor is not built yet (./oriedita builds it)"
 fi
