@@ -1,7 +1,8 @@
 #!/usr/bin/env bash
 # Measures the exact numbers, the tests of open regions, layers, editing and folding against plain Rust, replays runs of
-# the board among threads, and measures the reading of script text against `wc -w`. Its word is the number of rounds of
-# numbers (12000 where there is none). Times are processor times, the best of five.
+# the board among threads, measures the reading of script text against `wc -w`, and times the examples and strips of
+# stamps that are folded. Its word is the number of rounds of numbers (12000 where there is none). Times are processor
+# times, the best of five, where nothing else is said.
 cd "$(dirname "$0")" || exit 1
 rounds="${1:-12000}"
 times=5
@@ -137,6 +138,35 @@ text() {
         printf "editor     %s s, %.0f bytes a second\nwc -w      %s s, %.0f bytes a second\n", $1, bytes / $1, $2, bytes / $2 }'
 }
 
+# The time of each example by the clock, from its first byte to its last.
+all_examples() {
+    local TIMEFORMAT='%R' script
+    echo "== examples, seconds by the clock"
+    for script in ../examples/*.txt; do
+        printf '%-12s %s\n' "$(basename "$script" .txt)" "$({ time "$editor" <"$script" >/dev/null; } 2>&1)"
+    done
+}
+
+# strip STAMPS: a strip that is pleated into so many stamps, with one ask for its first order.
+strip() {
+    awk -v n="$1" 'BEGIN {
+        print "sheet 0 0", 10 * n, "0", 10 * n, "10 0 10"
+        for (k = 1; k < n; k++) print 2 + k % 2, 10 * k, 0, 10 * k, 10
+        print "budget 1000000000"; print "fold"; print "another 1"; print "wait 1"
+    }'
+}
+
+# strips STAMPS..: the time by the clock to the first order of each strip.
+strips() {
+    local TIMEFORMAT='%R' stamps
+    echo "== first order of a strip, seconds by the clock"
+    for stamps in "$@"; do
+        strip "$stamps" >"$folder/strip"
+        printf '%s stamps, %s pairs: %s\n' "$stamps" "$((stamps * (stamps - 1) / 2))" \
+            "$({ time "$editor" <"$folder/strip" >/dev/null; } 2>&1)"
+    done
+}
+
 beside numbers "$rounds"
 beside regions "$region_rounds"
 crowds
@@ -147,6 +177,8 @@ threads "$board_runs"
 if [ -x "$editor" ]; then
     text zerolength
     text onborder
+    all_examples
+    strips 12 16 17 18 19
 else
-    echo "script text is left out: the editor is not built yet (./oriedita builds it)"
+    echo "script text and examples are left out: the editor is not built yet (./oriedita builds it)"
 fi
