@@ -140,11 +140,10 @@ pub right_in : {E : Type 0} (s : JobsView) (n : ℕ) (j : FoldingJob) (piece : �
     → IfOk result (λ task. IfSome task (λ t. (x : Outcome) → IsRightOutcome (task_of t) x → IsRightIn s x))
 right_in s n j piece (Err e) found numbered task right = right
 right_in s n j piece (Ok None) found numbered task right = right
-right_in s n j piece (Ok (Some t)) found numbered task right = λ x is_right k at.
+right_in s n j piece (Ok (Some t)) found numbered task right = λ x is_right.
     let number : x.job ≡ n =
     is_right.job ∙ task_job j.state piece (task_of t) task ∙ numbered_at s n j numbered found in
-    let same : j ≡ k = same_Some j k (sym found ∙ ap (job_at s) (sym number) ∙ at) in
-    subst (λ (d : FoldingJob). IsRightFor d.state x) same (right x is_right)
+    (j, ap (job_at s) number ∙ found, right x is_right)
 
 -- an outcome that is right for a task of a live job matches among all jobs
 pub answers_in : {E : Type 0} (s : JobsView) (n : ℕ) (j : FoldingJob) (piece : ℕ)

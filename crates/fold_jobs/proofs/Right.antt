@@ -141,55 +141,45 @@ right_answered j (job_answer.Shown order) x right =
 
 -- ---- all jobs
 
-right_changed : (s : JobsView) (m : ℕ) (change : FoldingJob → FoldingJob) (x : Outcome) (j : FoldingJob)
-    → job_at s x.job ≡ Some j → IsRightFor j.state x
+right_changed : (s : JobsView) (m : ℕ) (change : FoldingJob → FoldingJob) (x : Outcome) → IsRightIn s x
     → ((k : FoldingJob) → IsRightFor k.state x → IsRightFor (change k).state x)
     → IsRightIn (changed s m change) x
-right_changed s m change x j found right keeps k at = elim (cases_Bool (eqb m x.job)) [
-  | inl own ↦
-      let there = ap (λ n. job_at (changed s n change) x.job) (eqb-true m x.job own)
-      ∙ changed-own s x.job change j found in
-      subst (λ (q : FoldingJob). IsRightFor q.state x) (same_Some (change j) k (sym there ∙ at))
-      (keeps j right)
-  | inr other ↦
-      let there = changed-other s m x.job change j other found in
-      subst (λ (q : FoldingJob). IsRightFor q.state x) (same_Some j k (sym there ∙ at)) right
+right_changed s m change x (j, found, right) keeps = elim (cases_Bool (eqb m x.job)) [
+  | inl own ↦ (
+    change j,
+    ap (λ n. job_at (changed s n change) x.job) (eqb-true m x.job own)
+        ∙ changed-own s x.job change j found,
+    keeps j right,
+  )
+  | inr other ↦ (j, changed-other s m x.job change j other found, right)
 ]
 
-right_same : (s : JobsView) (x : Outcome) (j : FoldingJob) → job_at s x.job ≡ Some j → IsRightFor j.state x
-    → IsRightIn s x
-right_same s x j found right k at =
-    subst (λ (q : FoldingJob). IsRightFor q.state x) (same_Some j k (sym found ∙ at)) right
-
-pub right_stays : (s : JobsView) (e : JobsEvent) (x : Outcome) (j : FoldingJob) → job_at s x.job ≡ Some j
-    → IsRightFor j.state x → IsRightIn (after_event s e) x
-right_stays s (Open number version r) x j found right = λ k at.
-    subst (λ (q : FoldingJob). IsRightFor q.state x)
-    (same_Some j k (sym (opened-old s version r x.job j found) ∙ at)) right
-right_stays s TooMany x j found right = right_same s x j found right
-right_stays s (Ask m (Ok u)) x j found right =
-    right_changed s m (λ (k : FoldingJob). record k { state = asked k.state s.budget }) x j found right
+pub right_stays : (s : JobsView) (e : JobsEvent) (x : Outcome) → IsRightIn s x → IsRightIn (after_event s e) x
+right_stays s (Open number version r) x (j, found, right) = (j, opened-old s version r x.job j found, right)
+right_stays s TooMany x right = right
+right_stays s (Ask m (Ok u)) x right =
+    right_changed s m (λ (k : FoldingJob). record k { state = asked k.state s.budget }) x right
     (λ k keeps. right_asked k.state s.budget x keeps)
-right_stays s (Ask m (Err refusal)) x j found right = right_same s x j found right
-right_stays s (SetBudget budget) x j found right = right_same s x j found right
-right_stays s (Answer m (Ok (Shown v n order))) x j found right =
-    right_changed s m (answered (Shown v n order)) x j found right
+right_stays s (Ask m (Err refusal)) x right = right
+right_stays s (SetBudget budget) x right = right
+right_stays s (Answer m (Ok (Shown v n order))) x right =
+    right_changed s m (answered (Shown v n order)) x right
     (λ k keeps. right_answered k.state (job_answer.Shown order) x keeps)
-right_stays s (Answer m (Ok (NoMore v))) x j found right =
-    right_changed s m (answered (NoMore v)) x j found right
+right_stays s (Answer m (Ok (NoMore v))) x right =
+    right_changed s m (answered (NoMore v)) x right
     (λ k keeps. right_answered k.state job_answer.NoMore x keeps)
-right_stays s (Answer m (Ok (Paused v))) x j found right =
-    right_changed s m (answered (Paused v)) x j found right
+right_stays s (Answer m (Ok (Paused v))) x right =
+    right_changed s m (answered (Paused v)) x right
     (λ k keeps. right_answered k.state job_answer.Paused x keeps)
-right_stays s (Answer m (Ok (NotReady v piece))) x j found right = right_same s x j found right
-right_stays s (Answer m (Err refusal)) x j found right = right_same s x j found right
-right_stays s (Cancel m (Ok u)) x j found right =
-    right_changed s m (λ (k : FoldingJob). record k { cancelled = true }) x j found right (λ k keeps. keeps)
-right_stays s (Cancel m (Err refusal)) x j found right = right_same s x j found right
-right_stays s (Post y true) x j found right =
-    right_changed s y.job (λ (k : FoldingJob). record k { state = posted k.state y }) x j found right
+right_stays s (Answer m (Ok (NotReady v piece))) x right = right
+right_stays s (Answer m (Err refusal)) x right = right
+right_stays s (Cancel m (Ok u)) x right =
+    right_changed s m (λ (k : FoldingJob). record k { cancelled = true }) x right (λ k keeps. keeps)
+right_stays s (Cancel m (Err refusal)) x right = right
+right_stays s (Post y true) x right =
+    right_changed s y.job (λ (k : FoldingJob). record k { state = posted k.state y }) x right
     (λ k keeps. right_posted k.state y x keeps)
-right_stays s (Post y false) x j found right = right_same s x j found right
+right_stays s (Post y false) x right = right
 
 right_named : (j : JobView) (x : Outcome) → IsRightFor j x → IsRightWhereNamed j x
 right_named j x right p known names =
@@ -213,4 +203,5 @@ right_named j x right p known names =
     }
 
 pub right_posts : (s : JobsView) (x : Outcome) → IsRightIn s x → IsRightWhereLive s x
-right_posts s x right j found live = right_named j.state x (right j found)
+right_posts s x (j, found, right) k at live =
+    right_named k.state x (subst (λ (d : FoldingJob). IsRightFor d.state x) (same_Some j k (sym found ∙ at)) right)

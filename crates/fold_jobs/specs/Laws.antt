@@ -39,7 +39,6 @@ LegalRecordsEnumerate =
 
 -- an outcome that is right for a job stays right for it, whatever happens
 pub record RightOutcomesStay : Type 0 where
-  pub stays : (s : JobsView) (e : JobsEvent) (x : Outcome) (j : FoldingJob) → job_at s x.job ≡ Some j
-      → IsRightFor j.state x → IsRightIn (after_event s e) x
+  pub stays : (s : JobsView) (e : JobsEvent) (x : Outcome) → IsRightIn s x → IsRightIn (after_event s e) x
   -- and may be posted
   pub posts : (s : JobsView) (x : Outcome) → IsRightIn s x → IsRightWhereLive s x

@@ -175,9 +175,9 @@ abbrev pub IsRightWhereLive : JobsView → Outcome → Type 0
 IsRightWhereLive s x =
     (j : FoldingJob) → job_at s x.job ≡ Some j → IsFalse j.cancelled → IsRightWhereNamed j.state x
 
--- where the outcome's job is there, its end is right for the task that it names
+-- the outcome's job is there, and its end is right for the task that it names
 abbrev pub IsRightIn : JobsView → Outcome → Type 0
-IsRightIn s x = (j : FoldingJob) → job_at s x.job ≡ Some j → IsRightFor j.state x
+IsRightIn s x = (j : FoldingJob) × (job_at s x.job ≡ Some j) × IsRightFor j.state x
 
 -- ---- tasks
 
