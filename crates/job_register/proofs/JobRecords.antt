@@ -92,7 +92,7 @@ abbrev pub Told : JobsView → JobsView → Event → Type 0
 Told s t e = (js : List JobsEvent) × Tells s t (e ∷ []) js
 
 -- the reply says nothing of a job's asks
-abbrev is_quiet : Reply → Bool
+abbrev pub is_quiet : Reply → Bool
 is_quiet (reply.Version version pieces) = true
 is_quiet (reply.Listed version pieces) = true
 is_quiet (reply.Checked version faults) = true
@@ -125,7 +125,7 @@ told_as s u t c r next e f told =
 
 -- ---- edits are quiet
 
-abbrev IsQuiet : Option Answer → Type 0
+abbrev pub IsQuiet : Option Answer → Type 0
 IsQuiet None = ⊤
 IsQuiet (Some a) = is_quiet a.reply ≡ true
 
@@ -163,7 +163,7 @@ quiet_redo : (j : JournalView) (o : Option JournalView) → is_quiet (redone_ans
 quiet_redo j None = refl
 quiet_redo j (Some next) = refl
 
-quiet_answer : (j : JournalView) (command : Command) → IsQuiet (answer j command)
+pub quiet_answer : (j : JournalView) (command : Command) → IsQuiet (answer j command)
 quiet_answer j (Add kind from to) = quiet_change j (add_of (current_pattern_of j) kind from to)
 quiet_answer j (Delete from to) = quiet_change j (delete_of (current_pattern_of j) from to)
 quiet_answer j (Set kind from to) = quiet_change j (set_of (current_pattern_of j) kind from to)

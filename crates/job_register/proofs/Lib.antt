@@ -4,3 +4,4 @@ pub mod Told
 pub mod Versions
 pub mod JobRecords
 pub mod FoldingLaws
+pub mod Counting

@@ -2,6 +2,7 @@ pub mod Edits
 pub mod Layers
 pub mod Machine
 pub mod Legal
+pub mod Counts
 pub mod RecordVersions
 pub mod Text
 pub mod View

@@ -1,6 +1,6 @@
 //! The session and its record.
 
-ghost use Rattle.std.specs.Prelude.{◌≡◌, ◌++◌, ◌∷◌, [], ◌+◌, ◌||◌, IfOk, IfSome, IsSome, IsTrue, OnOk, OnErr, option_map};
+ghost use Rattle.std.specs.Prelude.{◌≡◌, ◌≤◌, ◌++◌, ◌∷◌, [], ◌+◌, ◌||◌, if◌then◌else◌, IfOk, IfSome, IsSome, IsTrue, OnOk, OnErr, option_map};
 ghost use Rattle.script_lang.specs.Script.{meets_condition};
 ghost use Rattle.script_lang.specs.declared.reply.Reply.{Reply};
 ghost use Rattle.job_register.specs.Legal.{is_refusal, is_accepted};
@@ -10,6 +10,7 @@ use crate::laws::records_enumerate;
 use cp_text::{all_or_nothing, write_pattern};
 use crease_model::{Pattern, Sheet};
 use fold_jobs::Jobs;
+use fold_jobs::laws::right_outcomes_stay;
 use script_lang::{Command, Reply, write_head};
 use std::alloc::{AllocError, Global};
 use std::marker::Model;
@@ -101,12 +102,13 @@ impl Session {
     ghost use Rattle.worker_split.specs.Tasks.{task_of, IsRightOutcome};
     ghost use Rattle.worker_split.specs.Settled.{settled};
     ghost use Rattle.worker_split.specs.declared.outcome.Outcome.{Outcome};
-    ghost use Rattle.fold_jobs.specs.Machine.{IsRightWhereLive, IsPosted, MatchesIn, task_in, needed_in};
+    ghost use Rattle.fold_jobs.specs.Machine.{IsRightIn, IsRightWhereLive, IsPosted, MatchesIn, task_in, needed_in};
     ghost use Rattle.fold_jobs.specs.Waiting.{waiting_in};
     ghost use Rattle.undo_journal.specs.Versions.{pattern_at};
     ghost use Rattle.job_register.specs.View.{events_of};
     ghost use Rattle.job_register.specs.Machine.{first_state, IsReady, IsAnswered};
     ghost use Rattle.job_register.specs.Legal.{IsLegal, journal_after, commands_in, has_refusal};
+    ghost use Rattle.job_register.specs.Counts.{running_replies, accepted_outcomes, peeks_too_early};
     ghost use Rattle.job_register.specs.RecordVersions.{KeepsVersions};
     ghost use Rattle.job_register.specs.FoldingRecords.{EnumeratesOrders};
     ghost use Rattle.job_register.specs.Text.{text_of, last_text, text_at, reply_text, body_text, listing_text, checks_text};
@@ -146,9 +148,14 @@ impl Session {
             (text_of self.new.events ≡ text_of self.old.events ++ last_text self.new.events) }
         ensures commands { OnOk result
             (commands_in self.new.events ≡ commands_in self.old.events ++ command ∷ []) }
+        ensures running { OnOk result (running_replies self.new.events
+            ≡ running_replies self.old.events + (if peeks_too_early self.old.state command then 1 else 0)) }
+        ensures outcomes { accepted_outcomes self.new.events ≡ accepted_outcomes self.old.events }
+        ensures right { (x : Outcome) → IsRightIn self.old.state.jobs x → IsRightIn self.new.state.jobs x }
         ensures versions { KeepsVersions self.old.events self.new.events }
         ensures err { OnErr result (self.new ≡ self.old) }
     {
+        right_outcomes_stay();
         self.record.list.reserve(1)?;
         let reply = answer_command(
             rt,
@@ -184,9 +191,13 @@ impl Session {
         ensures most { self.new.state.jobs.most ≡ self.old.state.jobs.most }
         ensures text { text_of self.new.events ≡ text_of self.old.events }
         ensures commands { commands_in self.new.events ≡ commands_in self.old.events }
+        ensures running { running_replies self.new.events ≡ running_replies self.old.events }
+        ensures outcomes { accepted_outcomes self.new.events ≤ accepted_outcomes self.old.events + 1 }
+        ensures right { (x : Outcome) → IsRightIn self.old.state.jobs x → IsRightIn self.new.state.jobs x }
         ensures versions { KeepsVersions self.old.events self.new.events }
         ensures err { OnErr result (self.new ≡ self.old) }
     {
+        right_outcomes_stay();
         self.record.list.reserve(1)?;
         let kept = outcome.copy()?;
         let taken = self.jobs.post(kept.copy()?);
@@ -206,7 +217,7 @@ impl Session {
         ensures task { IfOk result (λ task. option_map task_of task ≡ task_in self.now.state.jobs job piece) }
         ensures job { IfOk result (λ task. IfSome task (λ t. t.job ≡ job)) }
         ensures right { IfOk result (λ task. IfSome task (λ t. (x : Outcome) → IsRightOutcome (task_of t) x
-            → IsRightWhereLive self.now.state.jobs x)) }
+            → IsRightIn self.now.state.jobs x)) }
         ensures answers { IfOk result (λ task. IfSome task (λ t. (x : Outcome) → IsRightOutcome (task_of t) x
             → MatchesIn self.now.state.jobs x)) }
     {

@@ -7,6 +7,7 @@ ghost use Rattle.job_register.specs.Legal.{commands_in};
 ghost use Rattle.job_register.specs.Machine.{IsReady};
 ghost use Rattle.job_register.specs.Text.{text_of};
 
+use fold_jobs::laws::right_outcomes_stay;
 use job_register::Session;
 use script_lang::Command;
 use std::alloc::{AllocError, Global};
@@ -25,6 +26,7 @@ fn search_piece(
     ensures text { text_of session.new.events ≡ text_of session.old.events }
     ensures most { session.new.state.jobs.most ≡ session.old.state.jobs.most }
 {
+    right_outcomes_stay();
     let Some(task) = session.task(job, piece)? else {
         return Ok(());
     };

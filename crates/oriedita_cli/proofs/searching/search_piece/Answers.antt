@@ -3,7 +3,7 @@ use Rattle.std.specs.Prelude.{Option, IfSome}
 use Rattle.worker_split.specs.declared.outcome.Outcome.{Outcome}
 use Rattle.worker_split.specs.declared.task.Task.{Task}
 use Rattle.worker_split.specs.Tasks.{task_of, IsRightOutcome}
-use Rattle.fold_jobs.specs.Machine.{MatchesIn, IsRightWhereLive}
+use Rattle.fold_jobs.specs.Machine.{MatchesIn, IsRightIn}
 use Rattle.fold_jobs.specs.Waiting.{waiting_in}
 use Rattle.oriedita_cli.proofs.searching.search_piece.Goals as goal
 
@@ -11,8 +11,9 @@ pub post-requires : goal.post-requires
 post-requires c =
     let jobs = c.args.session.now.state.jobs in
     let right = subst (λ (o : Option Task). IfSome o (λ t. (x : Outcome) → IsRightOutcome (task_of t) x
-    → IsRightWhereLive jobs x)) c.in-Some.is c.in_ok-task.ensures.right in
-    right c.in_ok-outcome.outcome c.in_ok-outcome.ensures
+    → IsRightIn jobs x)) c.in-Some.is c.in_ok-task.ensures.right in
+    c.right_outcomes_stay.ensures.posts jobs c.in_ok-outcome.outcome
+    (right c.in_ok-outcome.outcome c.in_ok-outcome.ensures)
 
 pub returns-clause-fewer : goal.returns-clause-fewer
 returns-clause-fewer c =
