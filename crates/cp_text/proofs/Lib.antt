@@ -12,3 +12,4 @@ pub mod PartedText
 pub mod ShortestNumbers
 pub mod WholeNumbers
 pub mod ReadBack
+pub mod Strips

@@ -1,5 +1,6 @@
 -- The digits of a whole number read as it.
-use Rattle.std.proofs.Common.{◌≡◌, ℕ, zero, suc, ◌+◌, ◌*◌, ◌/◌, ◌%◌, ◌^◌, ◌<◌, ◌≤◌, true, ◌&&◌, List, [], ◌∷◌, ◌++◌, length, Some, None, cond, decimal, nat_le, ap, ap₂, ◌∙◌, arith}
+use Rattle.std.proofs.Common.{◌≡◌, ℕ, zero, suc, ◌+◌, ◌*◌, ◌/◌, ◌%◌, ◌^◌, ◌<◌, ◌≤◌, min, Bool, true, false, ◌&&◌, List, [], ◌∷◌, ◌++◌, length, Some, None, cond, decimal, nat_le, inl, inr, refl, sym, ap, ap₂, ◌∙◌, arith}
+use Rattle.std.proofs.lemmas.Bool.{cases_lt}
 use Rattle.std.proofs.lemmas.Bool.Decides.{nat_tests}
 use Rattle.std.proofs.lemmas.List.{length-append}
 use Rattle.std.proofs.lemmas.Fmt.{decimal_by_steps}
@@ -39,3 +40,19 @@ whole_numbers_read_back least most n above below fits =
     ap₂ (λ p q. cond (p && q) (number_between least most (digits_value 0 (decimal n))) None) digits few
     ∙ ap (number_between least most) is.value
     ∙ ap₂ (λ p q. cond (p && q) (Some n) None) low high
+
+-- a limit below the bound of a value doesn't see that it was bounded
+pub bounded_between : (least most n : ℕ) → most < 2 ^ 37
+    → number_between least most (min n (2 ^ 37)) ≡ number_between least most n
+bounded_between least most n few = elim (cases_lt (2 ^ 37) n) [
+  | inr within ↦ ap (number_between least most) (omega (arith, within))
+  | inl above ↦ too_great least most (min n (2 ^ 37)) (omega (arith, above, few))
+      ∙ sym (too_great least most n (omega (arith, above, few)))
+]
+  where
+    refused : (b c : Bool) (m : ℕ) → c ≡ false → cond (b && c) (Some m) None ≡ None
+    refused true c m e = ap (λ d. cond d (Some m) None) e
+    refused false c m e = refl
+
+    too_great : (l t m : ℕ) → t < m → number_between l t m ≡ None
+    too_great l t m h = refused (nat_le l m) (nat_le m t) m (grind (arith, nat_tests))

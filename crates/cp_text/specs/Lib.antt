@@ -12,3 +12,4 @@ pub mod NumberGrammar
 pub mod NumberValue
 pub mod LineReading
 pub mod Laws
+pub mod Sample

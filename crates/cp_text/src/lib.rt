@@ -7,6 +7,7 @@ mod line;
 mod number_reading;
 mod number_writing;
 mod reading;
+mod samples;
 #[cfg(test)]
 mod tests;
 mod whole_reading;
@@ -23,6 +24,7 @@ pub use line::{CpLine, Ends, LONGEST_LINE, LineFault};
 pub use number_reading::{NumberFault, is_digits, read_number};
 pub use number_writing::write_number;
 pub use reading::{read_coordinate, read_ends, read_kind, read_line, read_line_words, read_point};
-pub use whole_reading::read_whole;
+pub use samples::sample;
+pub use whole_reading::{read_digits, read_whole};
 pub use words::{next_line, next_word};
 pub use writing::{write_line, write_pattern, write_point};

@@ -75,7 +75,7 @@ fn digit_value(b: u8) -> u64
 }
 
 // The value of digits, or a large number where it is greater.
-fn bounded_value(digits: &[u8]) -> u64
+pub(crate) fn bounded_value(digits: &[u8]) -> u64
     ensures { result ≡ min (digits_value 0 digits.now) LARGE }
 {
     let mut n: u64 = 0;

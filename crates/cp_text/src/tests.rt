@@ -293,3 +293,25 @@ fn writes_the_sides_of_a_sheet(rt: HostRuntime) -> Result<(), Fail> {
     assert_eq!(rt; out.as_slice(), text.as_slice());
     Ok(())
 }
+
+// The places of the lines of two sample patterns, as text.
+const SAMPLES: [(u32, usize, &[u8]); 3] = [
+    (1, 0, b"2 0 -200 0 200\n"),
+    (3, 1, b"3 -100 -200 -100 200\n"),
+    (7, 126, b"2 196.875 -200 196.875 200\n"),
+];
+
+#[test]
+fn parts_the_sheet_into_strips(rt: HostRuntime) -> Result<(), Fail> {
+    for (n, i, text) in SAMPLES {
+        assert!(rt; 1 <= n && n <= 7);
+        let lines = sample(rt.alloc(), n)?;
+        assert_eq!(rt; lines.len() + 1, 1usize << n);
+        if let Some(line) = lines.get(i) {
+            let mut out = Vec::new(rt.alloc());
+            write_line(&mut out, line)?;
+            assert_eq!(rt; out.as_slice(), text);
+        }
+    }
+    Ok(())
+}
