@@ -6,3 +6,4 @@ pub mod Scripts
 pub mod Printed
 pub mod Returning
 pub mod Singles
+pub mod Files

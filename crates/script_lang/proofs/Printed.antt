@@ -92,7 +92,7 @@ block_lines parted p rest =
     ∙ ap (λ ls. codes "load" ∷ ls)
     (parted p (codes "end\n" ++ rest) ∙ ap (λ ls. map line_body (pattern_lines p) ++ ls) (end_line rest))
 
-loaded : LinesReadBack → (lines : List CpLine)
+pub loaded : LinesReadBack → (lines : List CpLine)
     → block_command (map line_body lines) Ended ≡ Load (numbered_lines 1 lines) Ended
 loaded r lines = good_lines_are_loaded (map line_body lines) Ended (all_good r lines)
     ∙ ap (λ ls. Load ls Ended) (numbers r lines 1)

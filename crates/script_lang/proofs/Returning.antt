@@ -15,7 +15,7 @@ use Rattle.script_lang.specs.Laws.{numbered_lines, PrintedPatternsAreLoaded, Pri
 abbrev line_loaded : CpLine → PlainLine
 line_loaded line = record { kind = line.kind; from = line.from; to = line.to }
 
-without_numbers : (n : ℕ) (lines : List CpLine)
+pub without_numbers : (n : ℕ) (lines : List CpLine)
     → map plain_line (numbered_lines n lines) ≡ map line_loaded lines
 without_numbers n [] = refl
 without_numbers n (line ∷ lines) = ap (λ ls. line_loaded line ∷ ls) (without_numbers (n + 1) lines)
@@ -33,7 +33,7 @@ auxiliary_are : (lines : List Segment)
 auxiliary_are [] = refl
 auxiliary_are (s ∷ ss) = ap (λ ls. auxiliary_line s ∷ ls) (auxiliary_are ss)
 
-lines_are_own : (p : PatternView) → map line_loaded (pattern_lines p) ≡ own_lines p
+pub lines_are_own : (p : PatternView) → map line_loaded (pattern_lines p) ≡ own_lines p
 lines_are_own p =
     ap (map line_loaded)
     (append_assoc (map line_of_side (sides_of p.corners)) (map line_of_piece p.pieces)

@@ -9,13 +9,14 @@ use Rattle.crease_store.specs.Loading.{load_of}
 use Rattle.crease_store.specs.declared.loading.LoadLine.{LoadLine}
 use Rattle.cp_text.specs.declared.line.CpLine.{CpLine}
 use Rattle.cp_text.specs.declared.line.LineFault.{LineFault}
+use Rattle.cp_text.specs.declared.line.LineFault.TheVariants.{UnknownWord}
 use Rattle.cp_text.specs.Words.{bare_lines}
 use Rattle.cp_text.specs.LineText.{pattern_lines, pattern_text}
 use Rattle.script_lang.specs.declared.block.LoadStop.{LoadStop}
 use Rattle.script_lang.specs.declared.block.LoadStop.TheVariants.{Ended, Bad, Unended}
 use Rattle.script_lang.specs.declared.command.Command.TheVariants.{Load}
 use Rattle.script_lang.specs.Judged.{command_of}
-use Rattle.script_lang.specs.Script.{is_load_line, is_end_line, block_read, numbered, lines_before, block_command, commands_from, commands_of}
+use Rattle.script_lang.specs.Script.{is_load_line, is_end_line, block_read, numbered, lines_before, block_command, commands_from, commands_of, file_command}
 
 -- no line begins a block
 abbrev pub has_no_load : List (List ℕ) → Bool
@@ -101,3 +102,30 @@ PrintedPatternsComeBack =
     (p other : PatternView) (rest : List ℕ)
     → IsPattern p → IsTrue (is_sheet p.corners) → other.corners ≡ p.corners
     → ComesBack p other rest
+
+-- ---- files
+
+-- a file in which no line is `end` is the block of its lines
+abbrev pub FilesAreBlocks : Type 0
+FilesAreBlocks =
+    (bytes : List ℕ) → (load end : List ℕ) → IsTrue (has_no_end (bare_lines bytes))
+    → IsTrue (is_load_line load) → IsTrue (is_end_line end)
+    → commands_from false (load ∷ (bare_lines bytes ++ end ∷ [])) ≡ file_command bytes ∷ []
+
+-- a line `end` in a file is bad, as any other line that is not one of a kind
+abbrev pub EndIsNoLineOfAFile : Type 0
+EndIsNoLineOfAFile =
+    (line : List ℕ) → IsTrue (is_end_line line) → block_read line ≡ Some (Err UnknownWord)
+
+-- the text of the pattern, as a file, is a command whose lines load as that pattern
+pub record ComesBackFromFile (p other : PatternView) : Type 0 where
+  pub lines : List LoadLine
+  pub command : file_command (pattern_text p) ≡ Load lines Ended
+  pub loaded : load_of other lines ≡ Ok p
+
+-- each pattern's text does so where its sheet is in force, whatever stands on it
+abbrev pub PatternFilesComeBack : Type 0
+PatternFilesComeBack =
+    (p other : PatternView)
+    → IsPattern p → IsTrue (is_sheet p.corners) → other.corners ≡ p.corners
+    → ComesBackFromFile p other

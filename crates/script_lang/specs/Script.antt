@@ -97,3 +97,9 @@ commands_from false (line ∷ lines) =
 
 abbrev pub commands_of : List ℕ → List Command
 commands_of bytes = commands_from false (bare_lines bytes)
+
+-- ---- files
+
+-- the command of a crease pattern file: its lines are those of a block, without `load` and `end`
+abbrev pub file_command : List ℕ → Command
+file_command bytes = block_command (bare_lines bytes) Ended

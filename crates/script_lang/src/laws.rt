@@ -1,7 +1,7 @@
 //! What the commands of a script are, in the words of its lines and blocks. These functions do nothing: each contract is
 //! a law of the script.
 
-ghost use Rattle.script_lang.specs.Laws.{PlainLinesAreJudged, BlocksAreOneCommand, OpenBlocksAreOneCommand, FirstBadLineStops, GoodLinesAreLoaded, SingleLinesAreJudged, PrintedPatternsAreLoaded, PrintedPatternsComeBack};
+ghost use Rattle.script_lang.specs.Laws.{PlainLinesAreJudged, BlocksAreOneCommand, OpenBlocksAreOneCommand, FirstBadLineStops, GoodLinesAreLoaded, SingleLinesAreJudged, PrintedPatternsAreLoaded, PrintedPatternsComeBack, FilesAreBlocks, EndIsNoLineOfAFile, PatternFilesComeBack};
 
 use cp_text::{lines_read_back, patterns_are_parted_by_lines};
 use crease_store::own_lines_are_loaded;
@@ -56,5 +56,26 @@ pub fn printed_patterns_come_back()
     ensures { PrintedPatternsComeBack }
 {
     printed_patterns_are_loaded();
+    own_lines_are_loaded();
+}
+
+/// A file in which no line is `end` is the block of its lines.
+#[tactic(auto, using(crate::proofs::Files::files_are_blocks))]
+pub fn files_are_blocks()
+    ensures { FilesAreBlocks }
+{}
+
+/// A line `end` in a file is bad, as any other line that is not one of a kind.
+#[tactic(auto, using(crate::proofs::Files::end_is_no_line_of_a_file))]
+pub fn end_is_no_line_of_a_file()
+    ensures { EndIsNoLineOfAFile }
+{}
+
+/// The text of a pattern, as a file loaded where its sheet is in force, gives that pattern again.
+pub fn pattern_files_come_back()
+    ensures { PatternFilesComeBack }
+{
+    lines_read_back();
+    patterns_are_parted_by_lines();
     own_lines_are_loaded();
 }

@@ -3,7 +3,7 @@
 ghost use Rattle.std.specs.Prelude.{◌≡◌, ◌<◌, ◌≤◌, ◌∷◌, [], ◌++◌, ◌&&◌, nat_le, length, true, false, IfOk, OnOk, IsTrue};
 ghost use Rattle.std.specs.List.{list_all};
 ghost use Rattle.cp_text.specs.Words.{longest_line, words_of, bare_lines};
-ghost use Rattle.script_lang.specs.Script.{meets_condition, is_only, is_load_line, is_end_line, numbered, block_of, commands_from, commands_of};
+ghost use Rattle.script_lang.specs.Script.{meets_condition, is_only, is_load_line, is_end_line, numbered, block_of, commands_from, commands_of, file_command};
 
 use crate::block::{LoadLines, LoadStop};
 use crate::command::Command;
@@ -84,6 +84,15 @@ fn is_end(line: &[u8]) -> bool
     }
 }
 
+fn load(lines: Vec<LoadLine>, stop: LoadStop) -> Command
+    ensures { result ≡ Command.Load lines.items stop }
+{
+    Command::Load {
+        lines: LoadLines::of(lines),
+        stop,
+    }
+}
+
 // Appends the command of a block.
 fn push_load(
     list: &mut Vec<Command>,
@@ -94,8 +103,7 @@ fn push_load(
     ensures ok { OnOk result (list.new.items ≡ list.old.items ++ Command.Load lines.items stop ∷ []) }
     ensures condition { OnOk result (IsTrue (list_all meets_condition list.new.items)) }
 {
-    let lines = LoadLines::of(lines);
-    list.push(Command::Load { lines, stop })?;
+    list.push(load(lines, stop))?;
     Ok(())
 }
 
@@ -189,16 +197,57 @@ fn push_first<'a>(
     Ok(rest)
 }
 
-/// The commands of all lines and blocks. A line ends with a line feed, and the bytes after the last one are a line too.
+/// The commands of all lines and blocks, behind those that are there. A line ends with a line feed, and the bytes after the
+/// last one are a line too.
 #[tactic(auto, using(crate::proofs::Counts::lines_fit))]
-pub fn read_script(alloc: Global, bytes: &[u8]) -> Result<Commands, AllocError>
+pub fn read_script_behind(
+    alloc: Global,
+    first: Commands,
+    bytes: &[u8],
+) -> Result<Commands, AllocError>
     requires { length bytes.now < 4294967295 }
-    ensures { IfOk result (λ commands. commands ≡ commands_of bytes.now) }
+    ensures { IfOk result (λ commands. commands ≡ first ++ commands_of bytes.now) }
 {
-    let mut list = Vec::new(alloc);
+    let mut list = first.into_vec();
     let mut text = bytes;
     while let Some((line, rest)) = next_line(text) {
         text = push_first(alloc, &mut list, line, rest)?;
     }
     Ok(Commands { list })
+}
+
+/// The commands of all lines and blocks.
+pub fn read_script(alloc: Global, bytes: &[u8]) -> Result<Commands, AllocError>
+    requires { length bytes.now < 4294967295 }
+    ensures { IfOk result (λ commands. commands ≡ commands_of bytes.now) }
+{
+    read_script_behind(alloc, Commands::of(Vec::new(alloc)), bytes)
+}
+
+/// The command of a crease pattern file: a block of its lines, without `load` and `end`. Lines that are blank are counted
+/// and passed over, and the first one that is no line of a kind stops it; it begins with the edges of the sheet, as
+/// Oriedita writes them, or with any other lines.
+#[tactic(auto, using(crate::proofs::Counts::lines_fit))]
+pub fn read_file(alloc: Global, bytes: &[u8]) -> Result<Command, AllocError>
+    requires { length bytes.now < 4294967295 }
+    ensures exact { IfOk result (λ command. command ≡ file_command bytes.now) }
+    ensures condition { IfOk result (λ command. IsTrue (meets_condition command)) }
+{
+    let mut lines = Vec::new(alloc);
+    let mut place: u32 = 1;
+    let mut rest = bytes;
+    while let Some((line, after)) = next_line(rest) {
+        if let Some((word, words)) = next_word(line) {
+            match read_line_words(line, word, words) {
+                Ok(line) => lines.push(numbered(place, line))?,
+                Err(fault) => {
+                    let number = place;
+                    return Ok(load(lines, LoadStop::Bad { number, fault }));
+                }
+            }
+        }
+        place += 1;
+        rest = after;
+    }
+    Ok(load(lines, LoadStop::Ended))
 }

@@ -260,6 +260,33 @@ fn reads_scripts(rt: HostRuntime) -> Result<(), Fail> {
     Ok(())
 }
 
+// A file as Oriedita writes it, the sides first; then files that end in a bad line, in `end`, or that are empty.
+const FILES: [(&str, &str); 4] = [
+    (
+        "1 -200.0 -200.0 200.0 -200.0\n1 200 -200 200 200\n\n2 0.0 -200.0 0.0 200.0\n3 0 0 1r2 0",
+        "load\n.1 -200 -200 200 -200\n..1 200 -200 200 200\n....2 0 -200 0 200\n.....3 0 0 1r2 0\nended\n",
+    ),
+    (
+        "1 -200 -200 200 -200\n2 0 -82.84271247461902 0 200\n2 0 0 1 1\n",
+        "load\n.1 -200 -200 200 -200\nrefused load 2 notexact 2\n",
+    ),
+    ("end\n2 0 0 1 1\n", "load\nrefused load 1 unknownword\n"),
+    ("", "load\nended\n"),
+];
+
+#[test]
+fn reads_files(rt: HostRuntime) -> Result<(), Fail> {
+    let alloc = rt.alloc();
+    for (file, text) in FILES {
+        let mut out = Vec::new(alloc);
+        if file.len() < 1_000_000 {
+            put_command(&mut out, &read_file(alloc, file.as_bytes())?)?;
+        }
+        assert_eq!(rt; out.as_slice(), text.as_bytes());
+    }
+    Ok(())
+}
+
 // A word and this many spaces.
 fn padded(alloc: Global, word: &str, spaces: usize) -> Result<String, AllocError> {
     let mut line = String::from_str(alloc, word)?;

@@ -2,12 +2,12 @@ use Rattle.std.proofs.Common.{◌≡◌, ◌<◌, ◌++◌, false, IsTrue, lengt
 use Rattle.std.specs.List.{list_all}
 use Rattle.cp_text.specs.Words.{bare_lines}
 use Rattle.script_lang.specs.Script.{meets_condition, commands_from, commands_of}
-use Rattle.script_lang.proofs.script.read_script.Given as goal
+use Rattle.script_lang.proofs.script.read_script_behind.Given as goal
 
 -- the commands so far, and those of the lines that are left
 abbrev pub invariant-loop-line : goal.invariant-loop-line
 invariant-loop-line l = record {
-  commands : l.list.items ++ commands_from false (bare_lines l.text) ≡ commands_of l.bytes;
+  commands : l.list.items ++ commands_from false (bare_lines l.text) ≡ l.fn.first ++ commands_of l.bytes;
   condition : IsTrue (list_all meets_condition l.list.items);
   lines : length (bare_lines l.text) < 4294967295;
 }
