@@ -87,6 +87,35 @@ fn closed_with(put: Result<u32, PutFault<Arc<u32>>>) -> Option<u32> {
 }
 
 #[test]
+fn a_task_is_given_back(rt: HostRuntime) -> Result<(), Fail> {
+    given_back::<Brand, _>(&rt, rt.alloc(), Blank::new(1))
+}
+
+/// Only a ticket that is taken can be given back; its owner then finds no outcome, and it is handed out to nobody.
+fn given_back<L: Ledger, R: Wait + Abort>(rt: &R, alloc: Global, blank: Blank) -> Result<(), Fail>
+    requires name { blank.name ≡ L.name }
+    requires parts { blank.parts ≡ L.parts }
+    requires one { blank.parts ≡ 1 }
+{
+    let (board, mut seats) = Board::<Doubling, L>::open(alloc, blank, 1)?;
+    let mut seat = seats.pop().ok_or("a seat")?;
+    let task = Arc::new(alloc, 7)?;
+    assert_eq!(rt; board.put(rt, &mut seat, task).ok(), Some(1));
+    assert!(rt; !board.give_back(rt, &mut seat, 1));
+    let (ticket, task) = board.take(rt, &mut seat).ok_or("a task")?;
+    assert!(rt; board.give_back(rt, &mut seat, ticket));
+    assert!(rt; !board.give_back(rt, &mut seat, ticket));
+    let outcome = make_doubling().perform(alloc, &task)?;
+    assert!(rt; !board.post(rt, &mut seat, ticket, task, outcome));
+    assert!(rt; board.fetch(rt, &mut seat, ticket)?.is_none());
+    assert!(rt; board.obtain(rt, &mut seat, ticket).is_none());
+    assert!(rt; board.close(rt, &mut seat));
+    assert!(rt; board.take(rt, &mut seat).is_none());
+    assert_eq!(rt; seat.made(), 7);
+    Ok(())
+}
+
+#[test]
 fn helpers_over_a_board(rt: HostRuntime) -> Result<(), Fail> {
     two_seats::<Brand, _>(&rt, rt.alloc(), Blank::new(2))
 }
