@@ -1,5 +1,9 @@
 pub mod Cutting
 pub mod Inputs
+pub mod Misses
 pub mod Outputs
+pub mod Progress
+pub mod Released
+pub mod RightTasks
 pub mod Stopping
 pub mod Unanswered

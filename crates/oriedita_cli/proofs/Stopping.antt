@@ -1,13 +1,20 @@
 -- How runs of commands join, where all are served and where the last one stops.
 use Rattle.std.proofs.Common.{◌≡◌, ℕ, List, [], ◌∷◌, ◌++◌, Option, take, drop, refl, sym, ap, ◌∙◌, append_assoc}
 use Rattle.std.proofs.lemmas.List.{append-nil, take-append-drop}
+use Rattle.std.specs.Prelude.{Result, Ok, Err, OnErr}
 use Rattle.std.specs.Io.KnownBytes.{Appends}
 use Rattle.std.proofs.KnownBytes.{Appends-nil, Appends-trans}
 use Rattle.script_lang.specs.declared.command.Command.{Command}
 use Rattle.job_register.specs.declared.session.Event.{Event}
 use Rattle.job_register.specs.Legal.{commands_in}
 use Rattle.job_register.specs.Text.{text_of}
-use Rattle.oriedita_cli.specs.Serving.{Serves, StopsIn}
+use Rattle.job_register.specs.View.{SessionView}
+use Rattle.oriedita_cli.specs.Serving.{Serves, StopsIn, GoesOn}
+
+-- what holds in any case holds after an error
+pub on_any : {A E : Type 0} (r : Result A E) (P : Type 0) → P → OnErr r P
+on_any (Ok x) P p = tt
+on_any (Err e) P p = p
 
 -- before the first command; what was posted meanwhile has no command and no text
 pub stops_before : (es fs : List Event) (taken : Option (List ℕ)) (commands : List Command)
@@ -76,4 +83,17 @@ serves_then_stops es fs gs t u v commands more rest first second = record {
       ∙ append_assoc (text_of es) first.text (second.text ++ second.unwritten)
       ∙ ap (λ xs. text_of es ++ xs) (sym (append_assoc first.text second.text second.unwritten));
   written = Appends-trans t u v first.text second.text first.written second.written;
+}
+
+-- ---- outcomes that are taken between commands
+
+pub goes_nowhere : (s : SessionView) → GoesOn s s
+goes_nowhere s = record { commands = refl; text = refl; running = refl; most = refl }
+
+pub goes_both : (r s t : SessionView) → GoesOn r s → GoesOn s t → GoesOn r t
+goes_both r s t first second = record {
+  commands = second.commands ∙ first.commands;
+  text = second.text ∙ first.text;
+  running = second.running ∙ first.running;
+  most = second.most ∙ first.most;
 }

@@ -2,3 +2,4 @@ pub mod Serving
 pub mod WholeLines
 pub mod Clauses
 pub mod Words
+pub mod Tickets

@@ -4,7 +4,9 @@ use Rattle.std.specs.Io.KnownBytes.{Appends}
 use Rattle.script_lang.specs.declared.command.Command.{Command}
 use Rattle.job_register.specs.declared.session.Event.{Event}
 use Rattle.job_register.specs.Legal.{commands_in}
+use Rattle.job_register.specs.Counts.{running_replies}
 use Rattle.job_register.specs.Text.{text_of}
+use Rattle.job_register.specs.View.{SessionView}
 
 -- the record has gone on by these commands, and all of their text was written
 pub record Serves (old new : List Event) (taken taken' : Option (List ℕ))
@@ -25,3 +27,10 @@ pub record StopsIn (old new : List Event) (taken taken' : Option (List ℕ))
   pub unwritten : List ℕ
   pub text_is : text_of new ≡ text_of old ++ (text ++ unwritten)
   pub written : Appends taken taken' text
+
+-- a session that takes outcomes alone goes on: what is counted of its commands, its text and its replies stays
+pub record GoesOn (old new : SessionView) : Type 0 where
+  pub commands : commands_in new.events ≡ commands_in old.events
+  pub text : text_of new.events ≡ text_of old.events
+  pub running : running_replies new.events ≡ running_replies old.events
+  pub most : new.state.jobs.most ≡ old.state.jobs.most

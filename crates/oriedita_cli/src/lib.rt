@@ -2,11 +2,16 @@
 //! written; and the program round it.
 #![tactic(auto)]
 
+mod folding;
+mod helping;
 mod lines;
 mod programs;
 mod running;
-mod searching;
 mod serving;
+mod sessions;
+mod tickets;
 
+pub use folding::Folding;
 pub use programs::{program, run_arguments};
-pub use running::{Ended, run};
+pub use running::{Ended, run, run_alone};
+pub use sessions::session;

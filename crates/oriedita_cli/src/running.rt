@@ -12,13 +12,14 @@ ghost use Rattle.oriedita_cli.specs.Clauses.{IsAnswered, IsInput, IsOutput, ende
 ghost use Rattle.oriedita_cli.specs.WholeLines.{AreWholeLines};
 
 use crate::lines::whole_lines;
-use crate::serving::{Stop, serve_all};
+use crate::sessions::session;
+use job_register::Record;
 use job_register::laws::records_enumerate;
-use job_register::{Record, Session};
-use oriedita_io::{Failed, Input, InputEnd, LONGEST_INPUT, Sink, Source, read_all};
+use oriedita_io::{Input, InputEnd, LONGEST_INPUT, Sink, Source, read_all};
 use script_lang::{Commands, read_script};
 use std::alloc::{AllocError, Global};
 use std::thread::Threads;
+use task_board::Alone;
 
 /// The exit status of a run, and its record.
 #[derive(Drop)]
@@ -54,33 +55,6 @@ pub(crate) fn ended_without(alloc: Global, status: u8) -> Ended
     }
 }
 
-// The end of a run whose commands were all answered, and their replies written.
-fn finish<K: Sink>(session: Session, out: &mut K) -> Ended
-    ensures events { events_of result.events ≡ session.events }
-    ensures legal { IsLegal session.state.jobs.most session.events }
-    ensures bytes { Keeps (K.taken out.old) (K.taken out.new) }
-    ensures status { (result.status ≡ ended_status session.events) ⊎ (result.status ≡ WRITE_FAILED) }
-    ensures finished { result.status < 2 → Tells (K.finished out.new) true }
-    ensures cause { result.status ≡ WRITE_FAILED → Rose (K.faults out.old) (K.faults out.new) }
-    ensures faults_stay { K.faults out.old ≤ K.faults out.new }
-{
-    let status = if session.has_refusal() {
-        REFUSED
-    } else {
-        ACCEPTED
-    };
-    match out.finish() {
-        Ok(()) => Ended {
-            status,
-            events: session.finish(),
-        },
-        Err(Failed) => Ended {
-            status: WRITE_FAILED,
-            events: session.finish(),
-        },
-    }
-}
-
 // Answers the commands in a new session, and writes the replies.
 fn run_commands<R: Threads + Sync, K: Sink>(
     rt: &R,
@@ -97,20 +71,8 @@ fn run_commands<R: Threads + Sync, K: Sink>(
     ensures cause { result.status ≡ WRITE_FAILED → Rose (K.faults out.old) (K.faults out.new) }
     ensures faults_stay { K.faults out.old ≤ K.faults out.new }
 {
-    let Ok(mut session) = Session::open(alloc, 1) else {
-        return ended_without(alloc, NO_MEMORY);
-    };
-    match serve_all(rt, alloc, &mut session, commands.into_vec(), out) {
-        Ok(()) => finish(session, out),
-        Err(Stop::Write) => Ended {
-            status: WRITE_FAILED,
-            events: session.finish(),
-        },
-        Err(Stop::Memory) => Ended {
-            status: NO_MEMORY,
-            events: session.finish(),
-        },
-    }
+    let mut helpers = Alone::new(alloc);
+    session(rt, alloc, 1, commands, &mut helpers, out)
 }
 
 fn run_bytes<R: Threads + Sync, K: Sink>(rt: &R, alloc: Global, bytes: &[u8], out: &mut K) -> Ended
@@ -181,6 +143,35 @@ fn run_input<R: Threads + Sync, K: Sink>(rt: &R, alloc: Global, input: &Input, o
     }
 }
 
+/// [`run`] without words and without workers: whoever waits for an outcome searches it.
+pub fn run_alone<R: Threads + Sync, S: Source, K: Sink>(
+    rt: &R,
+    alloc: Global,
+    script: &mut S,
+    out: &mut K,
+) -> Ended
+    ensures legal { IsLegal 1 (events_of result.events) }
+    ensures enumeration { EnumeratesOrders 1 (events_of result.events) }
+    ensures input { (bytes : List ℕ) × Consumes (S.left script.old) (S.left script.new) bytes
+        × IsInput result.status (events_of result.events) bytes (S.faults script.old) (S.faults script.new) }
+    ensures read_to_its_end { result.status < 2 → IsAtEnd (S.left script.new) }
+    ensures output { IsOutput result.status (events_of result.events) (K.taken out.old) (K.taken out.new)
+        (K.finished out.new) }
+    ensures status { result.status ≤ 6 }
+    ensures words { result.status ≢ BAD_WORDS }
+    ensures refusals { result.status < 2 → result.status ≡ ended_status (events_of result.events) }
+    ensures read_fault { result.status ≡ READ_FAILED → Rose (S.faults script.old) (S.faults script.new) }
+    ensures write_fault { result.status ≡ WRITE_FAILED → Rose (K.faults out.old) (K.faults out.new) }
+    ensures source_faults_stay { S.faults script.old ≤ S.faults script.new }
+    ensures sink_faults_stay { K.faults out.old ≤ K.faults out.new }
+{
+    records_enumerate();
+    match read_all(alloc, script, LONGEST_INPUT) {
+        Ok(input) => run_input(rt, alloc, &input, out),
+        Err(_) => ended_without(alloc, NO_MEMORY),
+    }
+}
+
 /// Reads the whole script, answers its commands one after another and writes the text of each reply; then finishes the
 /// output. The status says how it ended, and the record what was answered.
 pub fn run<R: Threads + Sync, S: Source, K: Sink>(
@@ -219,8 +210,5 @@ pub fn run<R: Threads + Sync, S: Source, K: Sink>(
     if !words.is_empty() {
         return ended_without(alloc, BAD_WORDS);
     }
-    match read_all(alloc, script, LONGEST_INPUT) {
-        Ok(input) => run_input(rt, alloc, &input, out),
-        Err(_) => ended_without(alloc, NO_MEMORY),
-    }
+    run_alone(rt, alloc, script, out)
 }

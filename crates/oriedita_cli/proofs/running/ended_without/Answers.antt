@@ -1,4 +1,4 @@
-use Rattle.std.proofs.Common.{◌≡◌, List, [], refl, sym, subst}
+use Rattle.std.proofs.Common.{List, refl, sym, subst}
 use Rattle.job_register.specs.declared.session.Event.{Event}
 use Rattle.job_register.specs.Machine.{first_state}
 use Rattle.job_register.specs.Legal.{IsLegal}

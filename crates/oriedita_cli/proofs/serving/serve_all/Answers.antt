@@ -4,6 +4,7 @@ use Rattle.std.proofs.lemmas.Bool.{and_parts}
 use Rattle.script_lang.specs.declared.command.Command.{Command}
 use Rattle.script_lang.specs.Script.{meets_condition}
 use Rattle.oriedita_cli.specs.Serving.{StopsIn}
+use Rattle.oriedita_cli.proofs.Misses.{misses_none, misses_both}
 use Rattle.oriedita_cli.proofs.Stopping.{serves_none, serves_both, serves_then_stops}
 use Rattle.oriedita_cli.proofs.serving.serve_all.Goals as goal
 
@@ -11,18 +12,24 @@ pub loop-command-init : goal.loop-command-init
 loop-command-init g c = record {
   split = sym c.into_iter-command-iterator.ensures.into_iter_gives.0;
   condition = subst (λ (xs : List Command). list_all meets_condition xs ≡ true)
-      (sym c.into_iter-command-iterator.ensures.into_iter_gives.0) c.requires;
+      (sym c.into_iter-command-iterator.ensures.into_iter_gives.0) c.requires.condition;
   served = serves_none c.args.session.now.events (g.K.Sink.taken c.args.out.now);
   most = refl;
+  helped = c.requires.helped;
+  misses = omega arith;
+  running = misses_none _ _ c.args.session.now.events c.args.session.now.events (omega arith) refl;
   faults = omega arith;
 }
 
 pub serve-requires : goal.serve-requires
 serve-requires g c = (
   c.type_bounds.sync-R,
-  (and_parts (meets_condition c.in-Some.command) _
-      (subst (λ (xs : List Command). list_all meets_condition xs ≡ true) c.in-Some.ensures.steps.0
-      c.loop-command.invariant.condition)).0,
+  (
+    (and_parts (meets_condition c.in-Some.command) _
+        (subst (λ (xs : List Command). list_all meets_condition xs ≡ true) c.in-Some.ensures.steps.0
+        c.loop-command.invariant.condition)).0,
+    c.loop-command.invariant.helped,
+  ),
 )
 
 pub loop-command-preserved : goal.loop-command-preserved
@@ -40,6 +47,10 @@ loop-command-preserved g c =
           (taken c.args.out.now) (taken c.loop-command.out) (taken c.serve.new.out)
           c.loop-command.yielded (command ∷ []) c.loop-command.invariant.served c.in-Ok.ensures.serves;
       most = c.serve.ensures.most ∙ c.loop-command.invariant.most;
+      helped = c.serve.ensures.helped;
+      misses = omega (arith, c.loop-command.invariant.misses, c.serve.ensures.misses);
+      running = misses_both _ _ _ c.args.session.now.events c.loop-command.session.events c.serve.new.session.events
+          c.serve.ensures.misses c.loop-command.invariant.running c.serve.ensures.running;
       faults = omega (arith, c.loop-command.invariant.faults, c.in-Ok.ensures.faults_stay);
     }
 

@@ -4,7 +4,7 @@ use Rattle.job_register.specs.Text.{text_of}
 use Rattle.job_register.specs.View.{SessionView}
 use Rattle.oriedita_cli.proofs.Outputs.{finished_output}
 use Rattle.oriedita_cli.proofs.Unanswered.{none_answered}
-use Rattle.oriedita_cli.proofs.running.run_commands.Goals as goal
+use Rattle.oriedita_cli.proofs.sessions.session.Goals as goal
 
 pub returns-in_default-clause-input : goal.returns-in_default-clause-input
 returns-in_default-clause-input g c =

@@ -1,0 +1,106 @@
+//! A session over helpers.
+
+ghost use Rattle.std.specs.Prelude.{◌≡◌, ℕ, ◌+◌, ◌-◌, ◌^◌, ◌<◌, ◌≤◌, ◌⊎◌, None, true};
+ghost use Rattle.std.specs.Io.KnownBytes.{Keeps};
+ghost use Rattle.oriedita_io.specs.Faults.{Rose};
+ghost use Rattle.oriedita_io.specs.Told.{Tells};
+ghost use Rattle.job_register.specs.View.{events_of};
+ghost use Rattle.job_register.specs.Counts.{running_replies, accepted_outcomes};
+ghost use Rattle.job_register.specs.FoldingRecords.{EnumeratesOrders};
+ghost use Rattle.job_register.specs.Legal.{IsLegal};
+ghost use Rattle.oriedita_cli.specs.Clauses.{IsAnswered, IsOutput, ended_status};
+ghost use Rattle.oriedita_cli.specs.Tickets.{released};
+
+use crate::folding::Folding;
+use crate::running::{ACCEPTED, Ended, NO_MEMORY, REFUSED, WRITE_FAILED, ended_without};
+use crate::serving::{Stop, serve_all};
+use crate::tickets::Tickets;
+use job_register::Session;
+use job_register::laws::records_enumerate;
+use oriedita_io::{Failed, Sink};
+use script_lang::Commands;
+use std::alloc::Global;
+use std::thread::Threads;
+use task_board::Helpers;
+
+// The end of a run whose commands were all answered, and their replies written.
+fn finish<K: Sink>(session: Session, out: &mut K) -> Ended
+    ensures events { events_of result.events ≡ session.events }
+    ensures legal { IsLegal session.state.jobs.most session.events }
+    ensures bytes { Keeps (K.taken out.old) (K.taken out.new) }
+    ensures status { (result.status ≡ ended_status session.events) ⊎ (result.status ≡ WRITE_FAILED) }
+    ensures finished { result.status < 2 → Tells (K.finished out.new) true }
+    ensures cause { result.status ≡ WRITE_FAILED → Rose (K.faults out.old) (K.faults out.new) }
+    ensures faults_stay { K.faults out.old ≤ K.faults out.new }
+{
+    let status = if session.has_refusal() {
+        REFUSED
+    } else {
+        ACCEPTED
+    };
+    match out.finish() {
+        Ok(()) => Ended {
+            status,
+            events: session.finish(),
+        },
+        Err(Failed) => Ended {
+            status: WRITE_FAILED,
+            events: session.finish(),
+        },
+    }
+}
+
+/// Answers the commands in a new session and writes the replies. The tasks of an ask are put to the helpers before its
+/// reply is written. A peek takes what outcomes are there; a wait obtains what it needs, and searches what comes back.
+pub fn session<R: Threads + Sync, H: Helpers<Folding>, K: Sink>(
+    rt: &R,
+    alloc: Global,
+    most: u32,
+    commands: Commands,
+    helpers: &mut H,
+    out: &mut K,
+) -> Ended
+    requires most { most ≡ 1 }
+    requires given { H.given helpers.old ≡ 0 }
+    requires none { (number : ℕ) → H.held helpers.old number ≡ None }
+    ensures legal { IsLegal most (events_of result.events) }
+    ensures enumeration { EnumeratesOrders most (events_of result.events) }
+    ensures input { IsAnswered result.status (events_of result.events) commands }
+    ensures output { IsOutput result.status (events_of result.events) (K.taken out.old) (K.taken out.new)
+        (K.finished out.new) }
+    ensures status { (result.status ≡ ended_status (events_of result.events))
+        ⊎ ((result.status ≡ WRITE_FAILED) ⊎ (result.status ≡ NO_MEMORY)) }
+    ensures cause { result.status ≡ WRITE_FAILED → Rose (K.faults out.old) (K.faults out.new) }
+    ensures faults_stay { K.faults out.old ≤ K.faults out.new }
+    // Each reply that no answer is there yet was told so by the helpers, and no outcome came but by its ticket.
+    ensures running { H.misses helpers.new < 2 ^ 64 - 1
+        → running_replies (events_of result.events) + H.misses helpers.old ≤ H.misses helpers.new }
+    ensures tickets { accepted_outcomes (events_of result.events)
+        ≤ released (H.held helpers.new) (H.given helpers.new) }
+{
+    records_enumerate();
+    let Ok(mut session) = Session::open(alloc, most) else {
+        return ended_without(alloc, NO_MEMORY);
+    };
+    let mut tickets = Tickets::new(alloc);
+    match serve_all(
+        rt,
+        alloc,
+        most,
+        &mut session,
+        helpers,
+        &mut tickets,
+        commands.into_vec(),
+        out,
+    ) {
+        Ok(()) => finish(session, out),
+        Err(Stop::Write) => Ended {
+            status: WRITE_FAILED,
+            events: session.finish(),
+        },
+        Err(Stop::Memory) => Ended {
+            status: NO_MEMORY,
+            events: session.finish(),
+        },
+    }
+}

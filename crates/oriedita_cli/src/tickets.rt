@@ -1,0 +1,58 @@
+//! The tickets of a session.
+
+ghost use Rattle.std.specs.Prelude.{◌≡◌, ◌++◌, ◌∷◌, [], IfSome, not, ◌==◌, filter};
+ghost use Rattle.oriedita_cli.specs.Tickets.{IsListed, is_other};
+
+use std::alloc::Global;
+
+/// A ticket that is held, and the task that it is for: the one of a piece of a job with this budget.
+#[derive(Clone, Copy, Drop)]
+pub struct Ticket {
+    pub number: u32,
+    pub job: u32,
+    pub piece: u32,
+    pub budget: u64,
+}
+
+/// The tickets that a session holds, and how many it was given.
+#[derive(Drop)]
+pub struct Tickets {
+    pub list: Vec<Ticket>,
+    pub given: u32,
+}
+
+impl Tickets {
+    pub fn new(alloc: Global) -> Tickets
+        ensures list { result.list.items ≡ [] }
+        ensures given { result.given ≡ 0 }
+    {
+        Tickets {
+            list: Vec::new(alloc),
+            given: 0,
+        }
+    }
+
+    /// The ticket for the task of a piece with this budget, if one is held.
+    pub fn find(&self, job: u32, piece: u32, budget: u64) -> Option<u32>
+        ensures { IfSome result (λ number. IsListed number job self.now.list.items) }
+    {
+        for ticket in self.list.as_slice() {
+            if ticket.job == job && ticket.piece == piece && ticket.budget == budget {
+                return Some(ticket.number);
+            }
+        }
+        None
+    }
+
+    /// The ticket is held no more.
+    pub fn forget(&mut self, number: u32)
+        ensures list { self.new.list.items ≡ filter (is_other number) self.old.list.items }
+        ensures given { self.new.given ≡ self.old.given }
+    {
+        self.list.retain(
+            |ticket: &Ticket| -> bool
+                ensures { result ≡ is_other number ticket.now }
+            { ticket.number != number },
+        );
+    }
+}
