@@ -21,9 +21,13 @@ mod folding;
 #[cfg(test)]
 mod folding_limits;
 #[cfg(test)]
+mod helped;
+#[cfg(test)]
 mod limits;
 #[cfg(test)]
 mod lines;
+#[cfg(test)]
+mod posts;
 #[cfg(test)]
 mod rows;
 #[cfg(test)]
