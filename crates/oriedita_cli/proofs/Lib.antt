@@ -7,3 +7,4 @@ pub mod Released
 pub mod RightTasks
 pub mod Stopping
 pub mod Unanswered
+pub mod WrongWords

@@ -3,3 +3,5 @@ pub mod WholeLines
 pub mod Clauses
 pub mod Words
 pub mod Tickets
+pub mod WorkerWords
+pub mod Reading

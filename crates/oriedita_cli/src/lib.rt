@@ -10,6 +10,8 @@ mod running;
 mod serving;
 mod sessions;
 mod tickets;
+mod worker_words;
+mod workers;
 
 pub use folding::Folding;
 pub use programs::{program, run_arguments};

@@ -11,6 +11,7 @@ ghost use Rattle.job_register.specs.FoldingRecords.{EnumeratesOrders};
 ghost use Rattle.job_register.specs.Legal.{IsLegal};
 ghost use Rattle.oriedita_cli.specs.Clauses.{IsInput, IsOutput, ended_status};
 ghost use Rattle.oriedita_cli.specs.Words.{HasWords};
+ghost use Rattle.oriedita_cli.specs.WorkerWords.{HasWrongWords};
 
 use crate::running::{BAD_WORDS, Ended, NO_MEMORY, READ_FAILED, WRITE_FAILED, ended_without, run};
 use job_register::laws::records_enumerate;
@@ -20,8 +21,10 @@ use std::env::Args;
 use std::io::ErrorKind;
 use std::process::ExitCode;
 use std::rt::Env;
+use std::sync::Wait;
 use std::thread::Threads;
 use std::{env, io};
+use task_board::{Gate, NoGate};
 
 fn words_after_name(alloc: Global, mut arguments: Args) -> Result<Vec<String>, AllocError>
     ensures { IfOk result (λ words. vec_len words ≡ into_iter_len arguments - 1) }
@@ -52,12 +55,13 @@ fn words_of(alloc: Global, arguments: io::Result<Args>) -> Result<Vec<String>, A
 
 /// [`run`] on the arguments that a process has, its name first, as `env::args` tells them. Words are refused, also
 /// those that can't be told because one is not UTF-8.
-pub fn run_arguments<R: Threads + Sync, S: Source, K: Sink>(
+pub fn run_arguments<R: Threads + Wait + Sync, S: Source, K: Sink, G: Gate + Sync>(
     rt: &R,
     alloc: Global,
     arguments: io::Result<Args>,
     script: &mut S,
     out: &mut K,
+    gate: &G,
 ) -> Ended
     // The record clause.
     ensures legal { IsLegal 1 (events_of result.events) }
@@ -78,8 +82,9 @@ pub fn run_arguments<R: Threads + Sync, S: Source, K: Sink>(
     ensures status { result.status ≤ 6 }
     ensures refusals { result.status < 2 → result.status ≡ ended_status (events_of result.events) }
     ensures bad_words { result.status ≡ BAD_WORDS → HasWords arguments }
-    ensures words { HasWords arguments → (result.status ≡ BAD_WORDS) ⊎ (result.status ≡ NO_MEMORY) }
-    ensures untouched { HasWords arguments → (script.new ≡ script.old) × (out.new ≡ out.old) }
+    ensures words { HasWrongWords arguments → (result.status ≡ BAD_WORDS) ⊎ (result.status ≡ NO_MEMORY) }
+    ensures untouched { HasWrongWords arguments → (script.new ≡ script.old) × (out.new ≡ out.old) }
+    ensures refused { result.status ≡ BAD_WORDS → (script.new ≡ script.old) × (out.new ≡ out.old) }
     ensures untold { IfErr arguments (λ _. (script.new ≡ script.old) × (out.new ≡ out.old)) }
     ensures read_fault { result.status ≡ READ_FAILED → Rose (S.faults script.old) (S.faults script.new) }
     ensures write_fault { result.status ≡ WRITE_FAILED → Rose (K.faults out.old) (K.faults out.new) }
@@ -88,18 +93,27 @@ pub fn run_arguments<R: Threads + Sync, S: Source, K: Sink>(
 {
     records_enumerate();
     match words_of(alloc, arguments) {
-        Ok(words) => run(rt, alloc, words.as_slice(), script, out),
+        Ok(words) => run(rt, alloc, words.as_slice(), script, out, gate),
         Err(_) => ended_without(alloc, NO_MEMORY),
     }
 }
 
 /// The program: [`run_arguments`] on the arguments, the standard input and the standard output of a runtime. The answer
 /// is the status of the run.
-pub fn program<R: Env + Input + Print + Threads + Sync + Alloc<A = Global>>(rt: &R) -> ExitCode
+pub fn program<R: Env + Input + Print + Threads + Wait + Sync + Alloc<A = Global>>(
+    rt: &R,
+) -> ExitCode
     ensures { exit_status result ≤ 6 }
 {
     let mut script = StdinSource::new(rt.reader());
     let mut out = StdoutSink::new(io::writer(rt));
-    let ended = run_arguments(rt, rt.alloc(), env::args(rt), &mut script, &mut out);
+    let ended = run_arguments(
+        rt,
+        rt.alloc(),
+        env::args(rt),
+        &mut script,
+        &mut out,
+        &NoGate,
+    );
     ExitCode::from(ended.status)
 }

@@ -3,8 +3,8 @@ use Rattle.std.proofs.KnownBytes.{Consumes-nil}
 use Rattle.oriedita_cli.proofs.Unanswered.{none_read}
 use Rattle.oriedita_cli.proofs.running.run.Goals as goal
 
-pub returns-then-not-is_empty-clause-input : goal.returns-then-not-is_empty-clause-input
-returns-then-not-is_empty-clause-input g c =
+pub returns-in-None-clause-input : goal.returns-in-None-clause-input
+returns-in-None-clause-input g c =
     let status : c.ended_without.result.status ≡ 2 = c.ended_without.ensures.status in (
       [],
       Consumes-nil (g.S.Source.left c.args.script.now),
@@ -14,6 +14,6 @@ returns-then-not-is_empty-clause-input g c =
           (λ long. absurd (omega (arith, long))),
     )
 
-pub returns-then-not-is_empty-clause-enumeration : goal.returns-then-not-is_empty-clause-enumeration
-returns-then-not-is_empty-clause-enumeration g c =
+pub returns-in-None-clause-enumeration : goal.returns-in-None-clause-enumeration
+returns-in-None-clause-enumeration g c =
     c.records_enumerate.ensures 1 c.ended_without.result.events.list.items c.ended_without.ensures.legal
