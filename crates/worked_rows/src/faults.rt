@@ -9,8 +9,10 @@ use std::alloc::{AllocError, Global};
 use std::io;
 use std::io::ErrorKind;
 use std::process::Abort;
+use std::sync::Wait;
 use std::test::Fail;
 use std::thread::Threads;
+use task_board::NoGate;
 
 const SCRIPT: &[u8] = b"2 0 -200 0 200\nredo\nundo\n";
 
@@ -28,7 +30,7 @@ fn replied(read: u64) -> usize {
 
 // Runs the script with at most so many bytes a call and so much room in the sink, where the listed reads and writes fail.
 // Compares the status, how many bytes of the replies were written, and how often the sink was finished.
-fn ends<R: Abort + Threads + Sync>(
+fn ends<R: Abort + Threads + Wait + Sync>(
     rt: &R,
     alloc: Global,
     most: usize,
@@ -126,11 +128,11 @@ fn words_are_refused_before_anything_is_read(rt: HostRuntime) -> Result<(), Fail
             }
             Err(kind) => Err(io::Error::from(kind)),
         };
-        let ended = run_arguments(&rt, alloc, arguments, &mut source, &mut sink);
+        let ended = run_arguments(&rt, alloc, arguments, &mut source, &mut sink, &NoGate);
         assert_eq!(rt; ended.status, status, "{told:?}");
         if status > 1 {
             assert_eq!(rt; (sink.bytes().len(), sink.finishes()), (0, 0), "{told:?}");
-            let ended = run(&rt, alloc, &[], &mut source, &mut sink);
+            let ended = run(&rt, alloc, &[], &mut source, &mut sink, &NoGate);
             assert_eq!(rt; ended.status, 1, "{told:?}");
         }
         assert_eq!(rt; sink.bytes(), REPLIES, "{told:?}");

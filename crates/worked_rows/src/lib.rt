@@ -34,3 +34,5 @@ mod rows;
 mod runs;
 #[cfg(test)]
 mod stamps;
+#[cfg(test)]
+mod workers;

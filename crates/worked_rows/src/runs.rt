@@ -7,7 +7,9 @@ use oriedita_io::{Failed, MemSink, MemSource, Sink};
 use std::alloc::{AllocError, Global};
 use std::process::Abort;
 use std::str;
+use std::sync::Wait;
 use std::thread::Threads;
+use task_board::NoGate;
 
 /// The room of a sink that no run of these tables fills.
 pub const ROOM: usize = 65_536;
@@ -61,10 +63,31 @@ impl Sink for CountedSink {
     }
 }
 
-/// Runs a script without words. The source and the sink pass on at most `most` bytes a call, the sink takes `room`
+/// Runs a script with these words. The source and the sink pass on at most `most` bytes a call, the sink takes `room`
 /// bytes in all, and the listed calls of each fail, counted from 1. The answer is the exit status, and the sink as it
 /// was left.
-pub fn answer<R: Threads + Sync>(
+pub fn answer_with<R: Threads + Wait + Sync>(
+    rt: &R,
+    alloc: Global,
+    words: &[String],
+    script: &[u8],
+    most: usize,
+    room: usize,
+    failing_reads: &[u64],
+    failing_writes: &[u64],
+) -> Result<(u8, CountedSink), AllocError>
+    requires { 1 ≤ most }
+{
+    let script = script.to_vec(alloc)?;
+    let mut source = MemSource::new(script, most, failing_reads.to_vec(alloc)?);
+    let sink = MemSink::new(alloc, most, room, failing_writes.to_vec(alloc)?)?;
+    let mut sink = CountedSink::new(sink);
+    let ended = run(rt, alloc, words, &mut source, &mut sink, &NoGate);
+    Ok((ended.status, sink))
+}
+
+/// [`answer_with`] without workers, so that a peek finds no answer.
+pub fn answer<R: Threads + Wait + Sync>(
     rt: &R,
     alloc: Global,
     script: &[u8],
@@ -75,13 +98,26 @@ pub fn answer<R: Threads + Sync>(
 ) -> Result<(u8, CountedSink), AllocError>
     requires { 1 ≤ most }
 {
-    let words: Vec<String> = Vec::new(alloc);
-    let script = script.to_vec(alloc)?;
-    let mut source = MemSource::new(script, most, failing_reads.to_vec(alloc)?);
-    let sink = MemSink::new(alloc, most, room, failing_writes.to_vec(alloc)?)?;
-    let mut sink = CountedSink::new(sink);
-    let ended = run(rt, alloc, words.as_slice(), &mut source, &mut sink);
-    Ok((ended.status, sink))
+    let words = words_of(alloc, &["--workers", "0"])?;
+    answer_with(
+        rt,
+        alloc,
+        words.as_slice(),
+        script,
+        most,
+        room,
+        failing_reads,
+        failing_writes,
+    )
+}
+
+/// The words of a command line.
+pub fn words_of(alloc: Global, texts: &[&str]) -> Result<Vec<String>, AllocError> {
+    let mut words = Vec::new(alloc);
+    for text in texts {
+        words.push(text.to_string(alloc)?)?;
+    }
+    Ok(words)
 }
 
 /// Compares what a sink took with a text.
@@ -90,7 +126,7 @@ pub fn has_text(rt: &impl Abort, sink: &CountedSink, replies: &str, script: &str
     assert_eq!(rt; taken, replies, "the replies to {script}");
 }
 
-fn row_by<R: Abort + Threads + Sync>(
+fn row_by<R: Abort + Threads + Wait + Sync>(
     rt: &R,
     alloc: Global,
     row: Row,
@@ -107,7 +143,7 @@ fn row_by<R: Abort + Threads + Sync>(
 }
 
 /// Runs each script with large reads and writes, and one byte at a time, and compares both runs with its row.
-pub fn all_meet<R: Abort + Threads + Sync>(
+pub fn all_meet<R: Abort + Threads + Wait + Sync>(
     rt: &R,
     alloc: Global,
     rows: &[Row],

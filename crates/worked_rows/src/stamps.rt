@@ -5,6 +5,7 @@ use crate::runs::{ROOM, answer, has_text};
 use std::alloc::{AllocError, Global};
 use std::process::Abort;
 use std::str;
+use std::sync::Wait;
 use std::test::Fail;
 use std::thread::Threads;
 
@@ -230,7 +231,7 @@ fn push_orders(
 }
 
 // Asks once more than there are orders, and compares every reply. The answer is how many orders there are.
-fn strip_meets<R: Abort + Threads + Sync>(
+fn strip_meets<R: Abort + Threads + Wait + Sync>(
     rt: &R,
     alloc: Global,
     strip: Strip,
@@ -279,7 +280,7 @@ const ASKS: usize = 160;
 
 // Asks many times with a budget of one. Between pauses, of which there are so many at most, the orders come as before, and
 // then "no more" to each ask.
-fn pauses_pass_nothing<R: Abort + Threads + Sync>(
+fn pauses_pass_nothing<R: Abort + Threads + Wait + Sync>(
     rt: &R,
     alloc: Global,
     job: (&str, &str),
