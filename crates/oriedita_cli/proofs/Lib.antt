@@ -1,5 +1,4 @@
 pub mod Cutting
-pub mod Inputs
 pub mod Misses
 pub mod Outputs
 pub mod Progress
@@ -7,4 +6,3 @@ pub mod Released
 pub mod RightTasks
 pub mod Stopping
 pub mod Unanswered
-pub mod WrongWords
