@@ -32,5 +32,5 @@ abbrev pub most_pairs : ℕ
 most_pairs = 8192
 
 -- so many faces have fewer than 2^31 pairs
-abbrev pub most_faces : ℕ
-most_faces = 65536
+abbrev pub most_folded_faces : ℕ
+most_folded_faces = 65536

@@ -3,7 +3,7 @@
 ghost use Rattle.std.specs.Prelude.{◌≡◌, ◌↔◌, ◌+◌, ◌^◌, ◌<◌, ◌≤◌, ℕ, length, IfOk, OnOk, IsErrOf, IsTrue};
 ghost use Rattle.std.specs.List.{list_any};
 ghost use Rattle.layer_rules.specs.Faces.{is_shared_by};
-ghost use Rattle.layer_rules.specs.FacePairs.{IsFacePair, IsPairList, HasPairCount, most_pairs, most_faces};
+ghost use Rattle.layer_rules.specs.FacePairs.{IsFacePair, IsPairList, HasPairCount, most_pairs, most_folded_faces};
 ghost use Rattle.layer_rules.specs.Insides.{AreInsides};
 ghost use Rattle.layer_rules.specs.Candidates.{AreBefore, AreCandidates};
 ghost use Rattle.layer_rules.specs.Answer.{HasMemory};
@@ -53,7 +53,7 @@ pub fn pairs<R: Threads + Sync>(
     alloc: Global,
     folded: &Folded,
 ) -> Result<Vec<FacePair>, PairsFault>
-    requires { length folded.now.faces ≤ most_faces }
+    requires { length folded.now.faces ≤ most_folded_faces }
     ensures pairs { IfOk result (λ v. IsPairList folded.now v.items) }
     ensures few { IfOk result (λ v. length v.items ≤ most_pairs) }
     ensures too_many { (n : ℕ) → IsErrOf result (TooManyPairs n) ↔
@@ -71,7 +71,7 @@ pub fn pairs<R: Threads + Sync>(
 
 /// All pairs of so many faces, in order.
 fn candidates(alloc: Global, faces: u32) -> Result<Vec<FacePair>, AllocError>
-    requires { faces ≤ most_faces }
+    requires { faces ≤ most_folded_faces }
     ensures { IfOk result (λ v. AreCandidates faces v.items) }
 {
     let mut candidates = Vec::new(alloc);
@@ -83,7 +83,7 @@ fn candidates(alloc: Global, faces: u32) -> Result<Vec<FacePair>, AllocError>
 
 /// Those of a first face with each later one.
 fn push_row(candidates: &mut Vec<FacePair>, i: u32, faces: u32) -> Result<(), AllocError>
-    requires within { faces ≤ most_faces }
+    requires within { faces ≤ most_folded_faces }
     requires first { 1 ≤ i }
     requires last { i < faces }
     requires before { AreBefore faces i candidates.old.items }

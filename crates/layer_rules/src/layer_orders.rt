@@ -4,7 +4,7 @@ ghost use Rattle.std.specs.Prelude.{◌≡◌, ◌↔◌, ◌≤◌, List, lengt
 ghost use Rattle.std.specs.List.Sorted.{IsStrictlySortedBy};
 ghost use Rattle.sign_rules.specs.declared.sign.Sign.{Sign};
 ghost use Rattle.sign_rules.specs.Rules.{are_rules_on, is_consistent};
-ghost use Rattle.layer_rules.specs.FacePairs.{IsPairList, most_pairs, most_faces};
+ghost use Rattle.layer_rules.specs.FacePairs.{IsPairList, most_pairs, most_folded_faces};
 ghost use Rattle.layer_rules.specs.LayerOrder.{IsConsistent};
 ghost use Rattle.layer_rules.specs.RuleOrder.{compare_rules};
 
@@ -27,7 +27,7 @@ pub fn order_rules(
     kinds: &[Kind],
     pairs: &[FacePair],
 ) -> Result<Vec<Rule>, AllocError>
-    requires faces { length folded.now.faces ≤ most_faces }
+    requires faces { length folded.now.faces ≤ most_folded_faces }
     requires pairs { IsPairList folded.now pairs.now }
     requires few { length pairs.now ≤ most_pairs }
 
@@ -49,7 +49,7 @@ fn gathered(
     kinds: &[Kind],
     pairs: &[FacePair],
 ) -> Result<Vec<Rule>, AllocError>
-    requires faces { length folded.now.faces ≤ most_faces }
+    requires faces { length folded.now.faces ≤ most_folded_faces }
     requires pairs { IsPairList folded.now pairs.now }
     requires few { length pairs.now ≤ most_pairs }
 

@@ -6,7 +6,7 @@ ghost use Rattle.open_region.specs.Region.{HasPointBetween};
 ghost use Rattle.isometry_map.specs.Folded.{FoldedView};
 ghost use Rattle.sign_rules.specs.declared.sign.Sign.{Sign};
 ghost use Rattle.sign_rules.specs.Rules.{are_rules_on, is_broken};
-ghost use Rattle.layer_rules.specs.FacePairs.{Precedes, IsPairList, most_pairs, most_faces};
+ghost use Rattle.layer_rules.specs.FacePairs.{Precedes, IsPairList, most_pairs, most_folded_faces};
 ghost use Rattle.layer_rules.specs.Insides.{AreInsides};
 ghost use Rattle.layer_rules.specs.RuleMeaning.{MakesRule, MakesRules, ForSomeBelow};
 ghost use Rattle.layer_rules.specs.TacoTortilla.{BreaksTacoTortilla, BreaksTacoTortillaAt};
@@ -26,7 +26,7 @@ pub fn tortilla_rules(
     folded: &Folded,
     pairs: &[FacePair],
 ) -> Result<Vec<Rule>, AllocError>
-    requires faces { length folded.now.faces ≤ most_faces }
+    requires faces { length folded.now.faces ≤ most_folded_faces }
     requires pairs { IsPairList folded.now pairs.now }
     requires few { length pairs.now ≤ most_pairs }
 
@@ -51,7 +51,7 @@ fn push_tortillas(
     pairs: &[FacePair],
     crease: &CreaseImage,
 ) -> Result<(), AllocError>
-    requires faces { length insides.now ≤ most_faces }
+    requires faces { length insides.now ≤ most_folded_faces }
     requires insides { AreInsides folded.now.faces insides.now }
     requires pairs { IsPairList folded.now pairs.now }
     requires few { length pairs.now ≤ most_pairs }
@@ -67,7 +67,7 @@ fn push_tortillas(
 
 /// The rule of a crease and the face after the first `u` faces, if the crease runs into it and both pairs are there.
 fn tortilla(insides: &[Region], pairs: &[FacePair], crease: &CreaseImage, u: usize) -> Option<Rule>
-    requires faces { length insides.now ≤ most_faces }
+    requires faces { length insides.now ≤ most_folded_faces }
     requires ascending { AllPairs Precedes pairs.now }
     requires few { length pairs.now ≤ most_pairs }
     requires there { u < length insides.now }

@@ -285,24 +285,30 @@ fn a_chain_of_256_faces_folds(rt: HostRuntime) -> Result<(), Fail> {
     Ok(())
 }
 
-/// The greatest sheet, folded at x: its greatest coordinates are those of the greatest whole numbers.
-fn folded_greatest(alloc: Global, x: i64) -> Result<Vec<u8>, Fail> {
-    let greatest = Surd::new(1 << 36, 0, 0)?;
-    let least = Surd::new(-(1 << 36), 0, 0)?;
+/// The greatest sheet, folded along a crease.
+fn folded_greatest(alloc: Global, crease: (Point, Point)) -> Result<Vec<u8>, Fail> {
     let (left, right) = (
-        upright(least, least, greatest),
-        upright(greatest, least, greatest),
+        upright_on_greatest(-(1 << 36))?,
+        upright_on_greatest(1 << 36)?,
     );
     let corners = [left.0, right.0, right.1, left.1];
     let empty = Pattern::empty(Sheet::new(alloc, &corners)?);
-    let (from, to) = upright(Surd::new(x, 0, 0)?, least, greatest);
+    let (from, to) = crease;
     shape_text(alloc, &add(alloc, &empty, Kind::Valley, &from, &to)?)
 }
 
+/// The ends of the upright line at x on the greatest sheet.
+fn upright_on_greatest(x: i64) -> Result<(Point, Point), Fail> {
+    let greatest = Surd::new(1 << 36, 0, 0)?;
+    let least = Surd::new(-(1 << 36), 0, 0)?;
+    Ok(upright(Surd::new(x, 0, 0)?, least, greatest))
+}
+
+/// The greatest coordinates of the image are those of the greatest whole numbers.
 #[test]
 fn folded_corners_reach_the_greatest_numbers(rt: HostRuntime) -> Result<(), Fail> {
     let alloc = rt.alloc();
-    let wide = folded_greatest(alloc, 0)?;
+    let wide = folded_greatest(alloc, upright_on_greatest(0)?)?;
     assert_eq!(rt;
         wide.as_slice(),
         b"folded \
@@ -311,7 +317,44 @@ fn folded_corners_reach_the_greatest_numbers(rt: HostRuntime) -> Result<(), Fail
          ; 1:1:2 0 -68719476736 0 68719476736,"
             .as_slice()
     );
-    let wider = folded_greatest(alloc, -1)?;
+    let wider = folded_greatest(alloc, upright_on_greatest(-1)?)?;
     assert_eq!(rt; wider.as_slice(), b"foldrange 2".as_slice());
+    Ok(())
+}
+
+/// A shift may be greater than any coordinate. A fold along the right side is by 2^37 - 2; one of the corner below along
+/// the direction of 67.5 degrees is by more still, (1 + r2) 2^36 or so.
+#[test]
+fn shifts_reach_past_the_greatest_numbers(rt: HostRuntime) -> Result<(), Fail> {
+    let alloc = rt.alloc();
+    let side = folded_greatest(alloc, upright_on_greatest((1 << 36) - 1)?)?;
+    assert_eq!(rt;
+        side.as_slice(),
+        b"folded \
+         | f -68719476736 -68719476736, 68719476735 -68719476736, 68719476735 68719476736, -68719476736 68719476736, \
+         | t 68719476735 -68719476736, 68719476734 -68719476736, 68719476734 68719476736, 68719476735 68719476736, \
+         ; 1:1:2 68719476735 -68719476736 68719476735 68719476736,"
+            .as_slice()
+    );
+    let steep = (
+        Point {
+            x: Surd::new((1 << 36) - 2, 0, 0)?,
+            y: Surd::new(-(1 << 36), 0, 0)?,
+        },
+        Point {
+            x: Surd::new(1 << 36, 0, 0)?,
+            y: Surd::new(2 - (1 << 36), 2, 0)?,
+        },
+    );
+    let corner = folded_greatest(alloc, steep)?;
+    assert_eq!(rt;
+        corner.as_slice(),
+        b"folded \
+         | f -68719476736 -68719476736, 68719476734 -68719476736, 68719476736 -68719476734+2r2, \
+         68719476736 68719476736, -68719476736 68719476736, \
+         | t 68719476734 -68719476736, 68719476734-1r2 -68719476736+1r2, 68719476736 -68719476734+2r2, \
+         ; 1:1:2 68719476734 -68719476736 68719476736 -68719476734+2r2,"
+            .as_slice()
+    );
     Ok(())
 }
