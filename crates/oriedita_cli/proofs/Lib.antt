@@ -1,4 +1,5 @@
 pub mod Cutting
+pub mod Inputs
 pub mod Misses
 pub mod Outputs
 pub mod Progress
@@ -6,3 +7,4 @@ pub mod Released
 pub mod RightTasks
 pub mod Stopping
 pub mod Unanswered
+pub mod WrongWords
