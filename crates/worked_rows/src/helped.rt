@@ -114,7 +114,9 @@ fn helped_by<R: Abort + Threads + Sync>(
     row: HelpedRow,
 ) -> Result<(), AllocError> {
     let (script, missing, replies, status) = row;
-    let commands = read_script(alloc, script.as_bytes())?;
+    let bytes = script.as_bytes();
+    assert!(rt; bytes.len() <= ROOM, "{script}");
+    let commands = read_script(alloc, bytes)?;
     let mut helpers = Planned::new(alloc, Folding, missing.to_vec(alloc)?);
     let mut sink = MemSink::new(alloc, ROOM, ROOM, Vec::new(alloc))?;
     let ended = session(rt, alloc, 1, commands, &mut helpers, &mut sink);
