@@ -1,5 +1,5 @@
-//! The editor as a program: it answers the script on standard input, writes the replies to standard output and
-//! ends with the status of the run. It takes no words, and writes nothing to standard error.
+//! The editor as a program: it reads the file that its words name, answers the script on standard input, writes the
+//! replies to standard output and ends with the status of the run. It writes nothing to standard error.
 #![tactic(auto)]
 
 use oriedita_cli::program;

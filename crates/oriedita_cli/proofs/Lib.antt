@@ -3,8 +3,8 @@ pub mod Inputs
 pub mod Misses
 pub mod Outputs
 pub mod Progress
+pub mod Readings
 pub mod Released
 pub mod RightTasks
 pub mod Stopping
 pub mod Unanswered
-pub mod WrongWords

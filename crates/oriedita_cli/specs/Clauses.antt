@@ -1,16 +1,16 @@
 -- The clauses of the top call, by its exit status.
-use Rattle.std.specs.Prelude.{◌≡◌, ℕ, ◌<◌, ◌⊎◌, Bool, true, List, [], ◌++◌, Option, length, if◌then◌else◌}
+use Rattle.std.specs.Prelude.{◌≡◌, ℕ, ◌+◌, ◌<◌, ◌≤◌, ◌⊎◌, Bool, true, List, [], ◌∷◌, ◌++◌, Option, None, Some, length, if◌then◌else◌}
 use Rattle.std.specs.Io.KnownBytes.{Appends, Keeps}
 use Rattle.oriedita_io.specs.Faults.{Rose}
-use Rattle.oriedita_io.specs.Told.{Tells}
+use Rattle.oriedita_io.specs.Told.{ReadsUpTo, Tells}
 use Rattle.script_lang.specs.declared.command.Command.{Command}
-use Rattle.script_lang.specs.Script.{commands_of}
+use Rattle.script_lang.specs.Script.{commands_of, file_command}
 use Rattle.job_register.specs.declared.session.Event.{Event}
 use Rattle.job_register.specs.Legal.{commands_in, has_refusal}
 use Rattle.job_register.specs.Text.{text_of}
 use Rattle.oriedita_cli.specs.WholeLines.{AreWholeLines}
 
--- the most bytes that a script has
+-- the most bytes that a script has, and a file
 abbrev pub script_limit : ℕ
 script_limit = 4194304
 
@@ -23,21 +23,61 @@ pub record IsAnswered (status : ℕ) (events : List Event) (commands : List Comm
   pub all : (status < 2) ⊎ (status ≡ 3) → commands_in events ≡ commands
   pub front : IsFront (commands_in events) commands
 
--- The input clause, for the bytes that the source of the script lost, and its faults before and now.
-pub record IsInput (status : ℕ) (events : List Event) (bytes : List ℕ) (faults faults' : ℕ) : Type 0 where
+-- The input clause for a script, for the commands that come first, the bytes that the source of the script lost, and its
+-- faults before and now.
+pub record IsInput (status : ℕ) (events : List Event) (first : List Command) (bytes : List ℕ)
+    (faults faults' : ℕ) : Type 0 where
   -- the script that counts: all the bytes, or, where a read fault ended them, their whole lines
   pub script : List ℕ
   pub counts : (script ≡ bytes) ⊎ (Rose faults faults' × AreWholeLines script bytes)
   -- it is the former at 0 and 1, and the latter at 3
   pub whole : status < 2 → script ≡ bytes
   pub cut : status ≡ 3 → AreWholeLines script bytes
-  -- the commands of the record are those of the script, in order: all of them at 0, 1 and 3, else the first few
-  pub commands : IsAnswered status events (commands_of script)
+  -- the commands of the record are the first ones and those of the script, in order: all of them at 0, 1 and 3, else the
+  -- first few
+  pub commands : IsAnswered status events (first ++ commands_of script)
   -- none at 2 and 5
   pub none : (status ≡ 2) ⊎ (status ≡ 5) → events ≡ []
   -- 5 is answered only to too long a script, and to such a script nothing else is, unless memory is refused
   pub long : status ≡ 5 → script_limit < length bytes
   pub too_long : script_limit < length bytes → (status ≡ 5) ⊎ (status ≡ 6)
+
+-- the command of the file at a path, by what the opener tells of files; no more bytes were read of it than a file may have
+pub record IsFileLoad (file : List ℕ → Option (List ℕ)) (path : List ℕ) (first : List Command) : Type 0 where
+  pub bytes : List ℕ
+  pub read : ReadsUpTo (file path) (script_limit + 1) bytes
+  pub fits : length bytes ≤ script_limit
+  pub command : first ≡ file_command bytes ∷ []
+
+-- what runs before the script: nothing, or the command of the file that is named
+abbrev pub IsFirst : (List ℕ → Option (List ℕ)) → Option (List ℕ) → List Command → Type 0
+IsFirst file None first = first ≡ []
+IsFirst file (Some path) first = IsFileLoad file path first
+
+-- more bytes were read of the file that is named than a file may have
+pub record IsTooLong (file : List ℕ → Option (List ℕ)) (path : Option (List ℕ)) : Type 0 where
+  pub named : List ℕ
+  pub is_named : path ≡ Some named
+  pub bytes : List ℕ
+  pub read : ReadsUpTo (file named) (script_limit + 1) bytes
+  pub long : script_limit < length bytes
+
+-- No script was read, and nothing was run: the words are refused, or the file was not read, or memory was refused. The
+-- faults are those of the opener, before and now.
+pub record IsUnread (file : List ℕ → Option (List ℕ)) (path : Option (List ℕ)) (status : ℕ) (events : List Event)
+    (bytes : List ℕ) (faults faults' : ℕ) : Type 0 where
+  pub none : events ≡ []
+  pub unread : bytes ≡ []
+  pub late : 2 ≤ status
+  pub failed : status ≡ 3 → Rose faults faults'
+  pub long : status ≡ 5 → IsTooLong file path
+
+-- The script was read, behind the file where one is named.
+pub record IsRead (file : List ℕ → Option (List ℕ)) (path : Option (List ℕ)) (status : ℕ) (events : List Event)
+    (bytes : List ℕ) (faults faults' : ℕ) : Type 0 where
+  pub first : List Command
+  pub of_file : IsFirst file path first
+  pub input : IsInput status events first bytes faults faults'
 
 -- The output clause, for the bytes that the sink took.
 pub record IsOutput (status : ℕ) (events : List Event) (taken taken' : Option (List ℕ))

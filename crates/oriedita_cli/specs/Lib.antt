@@ -3,5 +3,4 @@ pub mod WholeLines
 pub mod Clauses
 pub mod Words
 pub mod Tickets
-pub mod WorkerWords
 pub mod Reading

@@ -1,23 +1,50 @@
--- What was read of a script.
-use Rattle.std.specs.Prelude.{◌≡◌, ⊤, ℕ, ◌<◌, ◌≤◌, ◌⊎◌, List, length}
+-- What is read before the first command is answered.
+use Rattle.std.specs.Prelude.{◌≡◌, ⊤, ℕ, ◌<◌, ◌≤◌, ◌⊎◌, List, [], ◌++◌, Option, length}
 use Rattle.oriedita_io.specs.Faults.{Rose}
+use Rattle.script_lang.specs.declared.command.Command.{Command}
 use Rattle.script_lang.specs.Script.{commands_of}
-use Rattle.oriedita_cli.specs.declared.running.Reading.{Reading}
-use Rattle.oriedita_cli.specs.declared.running.Reading.TheVariants.{Whole, Cut, Nothing}
-use Rattle.oriedita_cli.specs.Clauses.{script_limit}
+use Rattle.oriedita_cli.specs.declared.reading.Reading.{Reading}
+use Rattle.oriedita_cli.specs.declared.reading.Reading.TheVariants.{Whole, Cut, Nothing, NoFile}
+use Rattle.oriedita_cli.specs.declared.opening.Unread.{Unread}
+use Rattle.oriedita_cli.specs.declared.opening.Unread.TheVariants.{Failed, TooLong}
+use Rattle.oriedita_cli.specs.Clauses.{IsFirst, IsTooLong, script_limit}
 use Rattle.oriedita_cli.specs.WholeLines.{AreWholeLines}
 
--- All commands of these bytes; or, where a fault ended them, those of their whole lines; or none, where there are too many
--- bytes or memory was refused. The faults are those of the source before and now.
-abbrev pub IsReading : Reading → List ℕ → ℕ → ℕ → Type 0
-IsReading (Whole commands) bytes faults faults' = (length bytes ≤ script_limit) × (commands ≡ commands_of bytes)
-IsReading (Cut commands) bytes faults faults' =
+-- The first commands, and behind them those of these bytes; or, where a fault ended the bytes, those of their whole lines;
+-- or none, where there are too many bytes or memory was refused. The faults are those of the source before and now.
+abbrev pub IsReadBehind : List Command → Reading → List ℕ → ℕ → ℕ → Type 0
+IsReadBehind first (Whole commands) bytes faults faults' =
+    (length bytes ≤ script_limit) × (commands ≡ first ++ commands_of bytes)
+IsReadBehind first (Cut commands) bytes faults faults' =
     (length bytes ≤ script_limit) × Rose faults faults'
-    × (script : List ℕ) × AreWholeLines script bytes × (commands ≡ commands_of script)
-IsReading (Nothing status) bytes faults faults' =
+    × (script : List ℕ) × AreWholeLines script bytes × (commands ≡ first ++ commands_of script)
+IsReadBehind first (Nothing status) bytes faults faults' =
     ((status ≡ 5) × (script_limit < length bytes)) ⊎ (status ≡ 6)
+IsReadBehind first (NoFile fault) bytes faults faults' = ⊥
+
+-- the file that is named was read, where one is, and then the script
+pub record IsScript (file : List ℕ → Option (List ℕ)) (path : Option (List ℕ)) (reading : Reading) (bytes : List ℕ)
+    (faults faults' : ℕ) : Type 0 where
+  pub first : List Command
+  pub of_file : IsFirst file path first
+  pub behind : IsReadBehind first reading bytes faults faults'
+
+-- The file was not read, and so nothing of the script; the faults are the opener's.
+pub record IsNoFile (file : List ℕ → Option (List ℕ)) (path : Option (List ℕ)) (fault : Unread) (bytes : List ℕ)
+    (faults faults' : ℕ) : Type 0 where
+  pub unread : bytes ≡ []
+  pub failed : fault ≡ Failed → Rose faults faults'
+  pub long : fault ≡ TooLong → IsTooLong file path
+
+-- what was read, by the faults of the opener and of the source, before and now
+abbrev pub IsReading : (List ℕ → Option (List ℕ)) → Option (List ℕ) → Reading → List ℕ → ℕ → ℕ → ℕ → ℕ → Type 0
+IsReading file path (NoFile fault) bytes openings openings' faults faults' =
+    IsNoFile file path fault bytes openings openings'
+IsReading file path reading bytes openings openings' faults faults' =
+    IsScript file path reading bytes faults faults'
 
 abbrev pub IsWhole : Reading → Type 0
 IsWhole (Whole commands) = ⊤
 IsWhole (Cut commands) = ⊥
 IsWhole (Nothing status) = ⊥
+IsWhole (NoFile fault) = ⊥

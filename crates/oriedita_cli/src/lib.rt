@@ -5,12 +5,13 @@
 mod folding;
 mod helping;
 mod lines;
+mod opening;
 mod programs;
+mod reading;
 mod running;
 mod serving;
 mod sessions;
 mod tickets;
-mod worker_words;
 mod workers;
 
 pub use folding::Folding;

@@ -1,24 +1,25 @@
 //! The top call.
 
-ghost use Rattle.std.specs.Prelude.{◌≡◌, ℕ, ◌<◌, ◌≤◌, ◌↔◌, ◌⊎◌, ◌≢◌, List, None, [], length, nat_lt, if◌then◌else◌};
+ghost use Rattle.std.specs.Prelude.{◌≡◌, ◌≢◌, ℕ, ◌<◌, ◌≤◌, ◌↔◌, ◌⊎◌, List, Err, None, [], map, nat_lt, option_map, string_bytes, if◌then◌else◌, IfOk, IsSomeAnd};
 ghost use Rattle.std.specs.Io.KnownBytes.{Consumes, IsAtEnd};
 ghost use Rattle.oriedita_io.specs.Faults.{Rose};
 ghost use Rattle.job_register.specs.View.{events_of};
 ghost use Rattle.job_register.specs.FoldingRecords.{EnumeratesOrders};
 ghost use Rattle.job_register.specs.Legal.{IsLegal};
-ghost use Rattle.oriedita_cli.specs.Clauses.{IsAnswered, IsInput, IsOutput, ended_status, script_limit};
-ghost use Rattle.oriedita_cli.specs.Reading.{IsReading, IsWhole};
-ghost use Rattle.oriedita_cli.specs.WorkerWords.{workers_in};
+ghost use Rattle.program_words.specs.ProgramWords.{Says};
+ghost use Rattle.oriedita_cli.specs.Clauses.{IsAnswered, IsOutput, IsRead, IsUnread, ended_status};
+ghost use Rattle.oriedita_cli.specs.Words.{run_said, file_named};
 
-use crate::lines::whole_lines;
+use crate::opening::Unread;
+use crate::reading::{Reading, read_commands};
 use crate::sessions::session;
-use crate::worker_words::workers_of;
 use crate::workers::run_beside_workers;
 use job_register::Record;
 use job_register::laws::records_enumerate;
-use oriedita_io::{Input, InputEnd, LONGEST_INPUT, Sink, Source, read_all};
-use script_lang::{Commands, read_script};
-use std::alloc::{AllocError, Global};
+use oriedita_io::{Failed, Opener, Sink, Source};
+use program_words::{Options, WordsFault, read_words};
+use script_lang::Commands;
+use std::alloc::Global;
 use std::sync::Wait;
 use std::thread::Threads;
 use task_board::{Alone, Gate};
@@ -28,16 +29,6 @@ use task_board::{Alone, Gate};
 pub struct Ended {
     pub status: u8,
     pub events: Record,
-}
-
-/// What a script gives to answer.
-#[derive(Drop)]
-pub(crate) enum Reading {
-    Whole(Commands),
-    /// A read fault ended the bytes.
-    Cut(Commands),
-    /// No command is answered; the exit status.
-    Nothing(u8),
 }
 
 /// Every line was accepted.
@@ -50,10 +41,13 @@ pub const BAD_WORDS: u8 = 2;
 pub const READ_FAILED: u8 = 3;
 /// A write failed, or the finishing of the output.
 pub const WRITE_FAILED: u8 = 4;
-/// The script is too long.
+/// The file or the script is too long.
 pub const TOO_LONG: u8 = 5;
 /// Memory was refused.
 pub const NO_MEMORY: u8 = 6;
+
+/// The most worker threads.
+const MOST_WORKERS: u32 = 8;
 
 // The end of a run that answered no command.
 pub(crate) fn ended_without(alloc: Global, status: u8) -> Ended
@@ -67,37 +61,39 @@ pub(crate) fn ended_without(alloc: Global, status: u8) -> Ended
     }
 }
 
-// Reads the whole script.
-fn read_commands<S: Source>(alloc: Global, script: &mut S) -> Reading
-    ensures reading { (bytes : List ℕ) × Consumes (S.left script.old) (S.left script.new) bytes
-        × IsReading result bytes (S.faults script.old) (S.faults script.new) }
-    ensures read_to_its_end { IsWhole result → IsAtEnd (S.left script.new) }
-    ensures faults_stay { S.faults script.old ≤ S.faults script.new }
+// The end of a run whose file could not be read. Its output is nothing, and it is finished.
+fn ended_unopened<K: Sink>(alloc: Global, out: &mut K) -> Ended
+    ensures status { (result.status ≡ READ_FAILED) ⊎ (result.status ≡ WRITE_FAILED) }
+    ensures events { events_of result.events ≡ [] }
+    ensures legal { IsLegal 1 (events_of result.events) }
+    ensures output { IsOutput result.status (events_of result.events) (K.taken out.old) (K.taken out.new)
+        (K.finished out.new) }
+    ensures cause { result.status ≡ WRITE_FAILED → Rose (K.faults out.old) (K.faults out.new) }
+    ensures faults_stay { K.faults out.old ≤ K.faults out.new }
 {
-    match read_all(alloc, script, LONGEST_INPUT) {
-        Ok(input) => commands_of_input(alloc, &input),
-        Err(_) => Reading::Nothing(NO_MEMORY),
+    match out.finish() {
+        Ok(()) => ended_without(alloc, READ_FAILED),
+        Err(Failed) => ended_without(alloc, WRITE_FAILED),
     }
 }
 
-// The commands of what was read. Of bytes that a read fault ended, the whole lines are the script.
-fn commands_of_input(alloc: Global, input: &Input) -> Reading
-    requires { (input.now.end ≡ InputEnd.More) ↔ (script_limit < length input.now.bytes.items) }
-    ensures reading { (faults faults' : ℕ) → (input.now.end ≡ InputEnd.Failed → Rose faults faults')
-        → IsReading result input.now.bytes.items faults faults' }
-    ensures ended { IsWhole result → input.now.end ≡ InputEnd.Ended }
+// The end of a run that read no script, for the file.
+fn ended_unread<K: Sink>(alloc: Global, fault: Unread, out: &mut K) -> Ended
+    ensures events { events_of result.events ≡ [] }
+    ensures legal { IsLegal 1 (events_of result.events) }
+    ensures late { 3 ≤ result.status }
+    ensures status { result.status ≤ 6 }
+    ensures failed { result.status ≡ READ_FAILED → fault ≡ Unread.Failed }
+    ensures long { result.status ≡ TOO_LONG → fault ≡ Unread.TooLong }
+    ensures output { IsOutput result.status (events_of result.events) (K.taken out.old) (K.taken out.new)
+        (K.finished out.new) }
+    ensures cause { result.status ≡ WRITE_FAILED → Rose (K.faults out.old) (K.faults out.new) }
+    ensures faults_stay { K.faults out.old ≤ K.faults out.new }
 {
-    let bytes = input.bytes.as_slice();
-    match input.end {
-        InputEnd::Ended => match read_script(alloc, bytes) {
-            Ok(commands) => Reading::Whole(commands),
-            Err(_) => Reading::Nothing(NO_MEMORY),
-        },
-        InputEnd::Failed => match read_script(alloc, whole_lines(bytes)) {
-            Ok(commands) => Reading::Cut(commands),
-            Err(_) => Reading::Nothing(NO_MEMORY),
-        },
-        InputEnd::More => Reading::Nothing(TOO_LONG),
+    match fault {
+        Unread::Failed => ended_unopened(alloc, out),
+        Unread::TooLong => ended_without(alloc, TOO_LONG),
+        Unread::Memory => ended_without(alloc, NO_MEMORY),
     }
 }
 
@@ -137,79 +133,121 @@ fn answer_alone<R: Threads + Sync, K: Sink>(
     session(rt, alloc, 1, commands, &mut helpers, out)
 }
 
-/// [`run`] without words and without workers: what is waited for is searched there, and the call waits for nobody.
-pub fn run_alone<R: Threads + Sync, S: Source, K: Sink>(
+/// [`run`] with these options, but without workers: what is waited for is searched there, and the call waits for nobody.
+pub fn run_alone<R: Threads + Sync, S: Source, O: Opener, K: Sink>(
     rt: &R,
     alloc: Global,
+    options: &Options,
     script: &mut S,
+    files: &mut O,
     out: &mut K,
 ) -> Ended
+    requires { options.now.sample ≡ None }
     ensures legal { IsLegal 1 (events_of result.events) }
     ensures enumeration { EnumeratesOrders 1 (events_of result.events) }
     ensures input { (bytes : List ℕ) × Consumes (S.left script.old) (S.left script.new) bytes
-        × IsInput result.status (events_of result.events) bytes (S.faults script.old) (S.faults script.new) }
+        × (IsUnread (O.file files.old) (option_map string_bytes options.now.cp) result.status
+        (events_of result.events) bytes (O.faults files.old) (O.faults files.new)
+        ⊎ IsRead (O.file files.old) (option_map string_bytes options.now.cp) result.status
+        (events_of result.events) bytes (S.faults script.old) (S.faults script.new)) }
     ensures read_to_its_end { result.status < 2 → IsAtEnd (S.left script.new) }
     ensures output { IsOutput result.status (events_of result.events) (K.taken out.old) (K.taken out.new)
         (K.finished out.new) }
     ensures status { result.status ≤ 6 }
     ensures words { result.status ≢ BAD_WORDS }
     ensures refusals { result.status < 2 → result.status ≡ ended_status (events_of result.events) }
-    ensures read_fault { result.status ≡ READ_FAILED → Rose (S.faults script.old) (S.faults script.new) }
+    ensures read_fault { result.status ≡ READ_FAILED → Rose (S.faults script.old) (S.faults script.new)
+        ⊎ Rose (O.faults files.old) (O.faults files.new) }
     ensures write_fault { result.status ≡ WRITE_FAILED → Rose (K.faults out.old) (K.faults out.new) }
     ensures source_faults_stay { S.faults script.old ≤ S.faults script.new }
+    ensures opener_faults_stay { O.faults files.old ≤ O.faults files.new }
     ensures sink_faults_stay { K.faults out.old ≤ K.faults out.new }
 {
     records_enumerate();
-    match read_commands(alloc, script) {
+    match read_commands(alloc, &options.cp, script, files) {
         Reading::Whole(commands) => answer_alone(rt, alloc, commands, out),
         Reading::Cut(commands) => cut_short(answer_alone(rt, alloc, commands, out)),
         Reading::Nothing(status) => ended_without(alloc, status),
+        Reading::NoFile(fault) => ended_unread(alloc, fault, out),
+    }
+}
+
+// As many worker threads as the options say, of the 8 that a board has seats for.
+fn worker_count(options: &Options) -> u32
+    ensures { result ≤ 8 }
+{
+    if options.workers < MOST_WORKERS {
+        options.workers
+    } else {
+        MOST_WORKERS
     }
 }
 
 // `run_alone`, with worker threads beside the session.
-fn run_beside<R: Threads + Wait + Sync, S: Source, K: Sink, G: Gate + Sync>(
+fn run_beside<R: Threads + Wait + Sync, S: Source, O: Opener, K: Sink, G: Gate + Sync>(
     rt: &R,
     alloc: Global,
-    workers: u32,
+    options: &Options,
     script: &mut S,
+    files: &mut O,
     out: &mut K,
     gate: &G,
 ) -> Ended
-    requires { workers ≤ 8 }
     ensures legal { IsLegal 1 (events_of result.events) }
     ensures enumeration { EnumeratesOrders 1 (events_of result.events) }
     ensures input { (bytes : List ℕ) × Consumes (S.left script.old) (S.left script.new) bytes
-        × IsInput result.status (events_of result.events) bytes (S.faults script.old) (S.faults script.new) }
+        × (IsUnread (O.file files.old) (option_map string_bytes options.now.cp) result.status
+        (events_of result.events) bytes (O.faults files.old) (O.faults files.new)
+        ⊎ IsRead (O.file files.old) (option_map string_bytes options.now.cp) result.status
+        (events_of result.events) bytes (S.faults script.old) (S.faults script.new)) }
     ensures read_to_its_end { result.status < 2 → IsAtEnd (S.left script.new) }
     ensures output { IsOutput result.status (events_of result.events) (K.taken out.old) (K.taken out.new)
         (K.finished out.new) }
     ensures status { result.status ≤ 6 }
     ensures words { result.status ≢ BAD_WORDS }
     ensures refusals { result.status < 2 → result.status ≡ ended_status (events_of result.events) }
-    ensures read_fault { result.status ≡ READ_FAILED → Rose (S.faults script.old) (S.faults script.new) }
+    ensures read_fault { result.status ≡ READ_FAILED → Rose (S.faults script.old) (S.faults script.new)
+        ⊎ Rose (O.faults files.old) (O.faults files.new) }
     ensures write_fault { result.status ≡ WRITE_FAILED → Rose (K.faults out.old) (K.faults out.new) }
     ensures source_faults_stay { S.faults script.old ≤ S.faults script.new }
+    ensures opener_faults_stay { O.faults files.old ≤ O.faults files.new }
     ensures sink_faults_stay { K.faults out.old ≤ K.faults out.new }
 {
+    let workers = worker_count(options);
     records_enumerate();
-    match read_commands(alloc, script) {
+    match read_commands(alloc, &options.cp, script, files) {
         Reading::Whole(commands) => run_beside_workers(rt, alloc, workers, commands, gate, out),
         Reading::Cut(commands) => cut_short(run_beside_workers(
             rt, alloc, workers, commands, gate, out,
         )),
         Reading::Nothing(status) => ended_without(alloc, status),
+        Reading::NoFile(fault) => ended_unread(alloc, fault, out),
     }
 }
 
-/// Reads the whole script, answers its commands one after another and writes the text of each reply; then finishes the
-/// output. The status says how it ended, and the record what was answered. As many worker threads as the words say search
-/// the tasks of folding jobs meanwhile; each passes the gate before a search.
-pub fn run<R: Threads + Wait + Sync, S: Source, K: Sink, G: Gate + Sync>(
+// The options of words that are accepted. Samples are not run yet.
+fn accepted_options(alloc: Global, words: &[String]) -> Result<Options, WordsFault>
+    ensures said { IfOk result (λ o. IsSomeAnd (run_said (map string_bytes words.now)) (Says o)) }
+    ensures plain { IfOk result (λ o. o.sample ≡ None) }
+    ensures refused { result ≡ Err WordsFault.BadWords → run_said (map string_bytes words.now) ≡ None }
+{
+    let options = read_words(alloc, words)?;
+    if options.sample.is_some() {
+        return Err(WordsFault::BadWords);
+    }
+    Ok(options)
+}
+
+/// Judges the words, reads the file that they name and then the whole script, answers the commands one after another and
+/// writes the text of each reply; then finishes the output. The status says how it ended, and the record what was
+/// answered. As many worker threads as the words say search the tasks of folding jobs meanwhile; each passes the gate
+/// before a search.
+pub fn run<R: Threads + Wait + Sync, S: Source, O: Opener, K: Sink, G: Gate + Sync>(
     rt: &R,
     alloc: Global,
     words: &[String],
     script: &mut S,
+    files: &mut O,
     out: &mut K,
     gate: &G,
 ) -> Ended
@@ -221,7 +259,10 @@ pub fn run<R: Threads + Wait + Sync, S: Source, K: Sink, G: Gate + Sync>(
 
     // The input clause.
     ensures input { (bytes : List ℕ) × Consumes (S.left script.old) (S.left script.new) bytes
-        × IsInput result.status (events_of result.events) bytes (S.faults script.old) (S.faults script.new) }
+        × (IsUnread (O.file files.old) (file_named (map string_bytes words.now)) result.status
+        (events_of result.events) bytes (O.faults files.old) (O.faults files.new)
+        ⊎ IsRead (O.file files.old) (file_named (map string_bytes words.now)) result.status
+        (events_of result.events) bytes (S.faults script.old) (S.faults script.new)) }
     ensures read_to_its_end { result.status < 2 → IsAtEnd (S.left script.new) }
 
     // The output clause.
@@ -231,17 +272,27 @@ pub fn run<R: Threads + Wait + Sync, S: Source, K: Sink, G: Gate + Sync>(
     // The status clause.
     ensures status { result.status ≤ 6 }
     ensures refusals { result.status < 2 → result.status ≡ ended_status (events_of result.events) }
-    ensures bad_words { (result.status ≡ BAD_WORDS) ↔ (workers_in words.now ≡ None) }
-    ensures untouched { result.status ≡ BAD_WORDS → (script.new ≡ script.old) × (out.new ≡ out.old) }
-    ensures read_fault { result.status ≡ READ_FAILED → Rose (S.faults script.old) (S.faults script.new) }
+    ensures bad_words { result.status ≡ BAD_WORDS → run_said (map string_bytes words.now) ≡ None }
+    ensures refused { run_said (map string_bytes words.now) ≡ None
+        → (result.status ≡ BAD_WORDS) ⊎ (result.status ≡ NO_MEMORY) }
+    ensures untouched { run_said (map string_bytes words.now) ≡ None
+        → (script.new ≡ script.old) × (files.new ≡ files.old) × (out.new ≡ out.old) }
+    ensures read_fault { result.status ≡ READ_FAILED → Rose (S.faults script.old) (S.faults script.new)
+        ⊎ Rose (O.faults files.old) (O.faults files.new) }
     ensures write_fault { result.status ≡ WRITE_FAILED → Rose (K.faults out.old) (K.faults out.new) }
     ensures source_faults_stay { S.faults script.old ≤ S.faults script.new }
+    ensures opener_faults_stay { O.faults files.old ≤ O.faults files.new }
     ensures sink_faults_stay { K.faults out.old ≤ K.faults out.new }
 {
     records_enumerate();
-    match workers_of(words) {
-        None => ended_without(alloc, BAD_WORDS),
-        Some(0) => run_alone(rt, alloc, script, out),
-        Some(workers) => run_beside(rt, alloc, workers, script, out, gate),
+    match accepted_options(alloc, words) {
+        Ok(options) => {
+            if options.workers == 0 {
+                return run_alone(rt, alloc, &options, script, files, out);
+            }
+            run_beside(rt, alloc, &options, script, files, out, gate)
+        }
+        Err(WordsFault::BadWords) => ended_without(alloc, BAD_WORDS),
+        Err(WordsFault::Memory) => ended_without(alloc, NO_MEMORY),
     }
 }

@@ -4,7 +4,7 @@ ghost use Rattle.std.specs.Prelude.{◌≤◌};
 
 use crate::runs::{CountedSink, ROOM, answer, has_text};
 use oriedita_cli::{run, run_arguments};
-use oriedita_io::{MemSink, MemSource};
+use oriedita_io::{MemOpener, MemSink, MemSource};
 use std::alloc::{AllocError, Global};
 use std::io;
 use std::io::ErrorKind;
@@ -128,11 +128,20 @@ fn words_are_refused_before_anything_is_read(rt: HostRuntime) -> Result<(), Fail
             }
             Err(kind) => Err(io::Error::from(kind)),
         };
-        let ended = run_arguments(&rt, alloc, arguments, &mut source, &mut sink, &NoGate);
+        let mut files = MemOpener::new(Vec::new(alloc), Vec::new(alloc));
+        let ended = run_arguments(
+            &rt,
+            alloc,
+            arguments,
+            &mut source,
+            &mut files,
+            &mut sink,
+            &NoGate,
+        );
         assert_eq!(rt; ended.status, status, "{told:?}");
         if status > 1 {
             assert_eq!(rt; (sink.bytes().len(), sink.finishes()), (0, 0), "{told:?}");
-            let ended = run(&rt, alloc, &[], &mut source, &mut sink, &NoGate);
+            let ended = run(&rt, alloc, &[], &mut source, &mut files, &mut sink, &NoGate);
             assert_eq!(rt; ended.status, 1, "{told:?}");
         }
         assert_eq!(rt; sink.bytes(), REPLIES, "{told:?}");

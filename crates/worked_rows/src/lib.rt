@@ -15,6 +15,8 @@ mod faces;
 #[cfg(test)]
 mod faults;
 #[cfg(test)]
+mod files;
+#[cfg(test)]
 mod folded_shapes;
 #[cfg(test)]
 mod folding;

@@ -3,7 +3,7 @@
 ghost use Rattle.std.specs.Prelude.{◌≤◌};
 
 use oriedita_cli::run;
-use oriedita_io::{Failed, MemSink, MemSource, Sink};
+use oriedita_io::{Failed, MemOpener, MemSink, MemSource, Sink};
 use std::alloc::{AllocError, Global};
 use std::process::Abort;
 use std::str;
@@ -82,7 +82,16 @@ pub fn answer_with<R: Threads + Wait + Sync>(
     let mut source = MemSource::new(script, most, failing_reads.to_vec(alloc)?);
     let sink = MemSink::new(alloc, most, room, failing_writes.to_vec(alloc)?)?;
     let mut sink = CountedSink::new(sink);
-    let ended = run(rt, alloc, words, &mut source, &mut sink, &NoGate);
+    let mut files = MemOpener::new(Vec::new(alloc), Vec::new(alloc));
+    let ended = run(
+        rt,
+        alloc,
+        words,
+        &mut source,
+        &mut files,
+        &mut sink,
+        &NoGate,
+    );
     Ok((ended.status, sink))
 }
 

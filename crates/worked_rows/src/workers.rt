@@ -3,7 +3,7 @@
 use crate::folding::FOLDINGS;
 use crate::runs::{ROOM, Row, answer_with, has_text, words_of};
 use oriedita_cli::run;
-use oriedita_io::{Failed, MemSink, MemSource, Sink};
+use oriedita_io::{Failed, MemOpener, MemSink, MemSource, Sink};
 use std::alloc::{AllocError, Global};
 use std::process::Abort;
 use std::str;
@@ -137,7 +137,16 @@ fn a_job_answers_while_another_is_searched(rt: HostRuntime) -> Result<(), Fail> 
         flags: &flags,
     };
     let gate = HeldGate { flags: &flags };
-    let ended = run(&rt, alloc, words.as_slice(), &mut source, &mut sink, &gate);
+    let mut files = MemOpener::new(Vec::new(alloc), Vec::new(alloc));
+    let ended = run(
+        &rt,
+        alloc,
+        words.as_slice(),
+        &mut source,
+        &mut files,
+        &mut sink,
+        &gate,
+    );
     let taken = str::from_utf8(sink.sink.bytes()).unwrap_or("no text");
     assert_eq!(&rt; taken, replies);
     assert_eq!(&rt; ended.status, status);

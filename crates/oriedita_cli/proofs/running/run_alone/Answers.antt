@@ -1,31 +1,50 @@
+use Rattle.std.proofs.Common.{inl, inr}
 use Rattle.job_register.specs.View.{events_of}
-use Rattle.oriedita_cli.proofs.Inputs.{cut_read}
-use Rattle.oriedita_cli.proofs.Outputs.{nothing_written}
-use Rattle.oriedita_cli.proofs.Unanswered.{nothing_read}
+use Rattle.std.specs.Prelude.{option_map, string_bytes}
+use Rattle.oriedita_cli.proofs.Outputs.{unanswered_output}
+use Rattle.oriedita_cli.proofs.Readings.{whole_is_read, cut_is_read, nothing_is_read, no_file_is_unread}
 use Rattle.oriedita_cli.proofs.running.run_alone.Goals as goal
+
+pub returns-in-Whole-clause-input : goal.returns-in-Whole-clause-input
+returns-in-Whole-clause-input g c =
+    let read = c.in-Whole.ensures.reading in (
+      read.0,
+      read.1,
+      inr (whole_is_read _ _ _ c.answer_alone.result.status (events_of c.answer_alone.result.events) read.0 _ _ read.2
+          c.answer_alone.ensures.input c.answer_alone.ensures.status),
+    )
+
+pub returns-in-Cut-clause-input : goal.returns-in-Cut-clause-input
+returns-in-Cut-clause-input g c =
+    let read = c.in-Cut.ensures.reading in (
+      read.0,
+      read.1,
+      inr (cut_is_read _ _ _ c.answer_alone-in-Cut.result.status c.cut_short.result.status (events_of c.answer_alone-in-Cut.result.events)
+          (events_of c.cut_short.result.events) read.0 _ _ read.2 c.answer_alone-in-Cut.ensures.input
+          c.answer_alone-in-Cut.ensures.status c.cut_short.ensures.events c.cut_short.ensures.status),
+    )
 
 pub returns-in-Nothing-clause-input : goal.returns-in-Nothing-clause-input
 returns-in-Nothing-clause-input g c =
     let read = c.in-Nothing.ensures.reading in (
       read.0,
       read.1,
-      nothing_read c.ended_without.result.status c.in-Nothing.status (events_of c.ended_without.result.events) read.0
-          _ _ c.ended_without.ensures.status c.ended_without.ensures.events read.2,
+      inr (nothing_is_read _ _ c.in-Nothing.status c.ended_without.result.status
+          (events_of c.ended_without.result.events) read.0 _ _ read.2 c.ended_without.ensures.status
+          c.ended_without.ensures.events),
+    )
+
+pub returns-in-NoFile-clause-input : goal.returns-in-NoFile-clause-input
+returns-in-NoFile-clause-input g c =
+    let read = c.in-NoFile.ensures.reading in (
+      read.0,
+      read.1,
+      inl (no_file_is_unread _ _ c.in-NoFile.fault c.ended_unread.result.status
+          (events_of c.ended_unread.result.events) read.0 _ _ read.2 c.ended_unread.ensures.events
+          c.ended_unread.ensures.late c.ended_unread.ensures.failed c.ended_unread.ensures.long),
     )
 
 pub returns-in-Nothing-clause-output : goal.returns-in-Nothing-clause-output
 returns-in-Nothing-clause-output g c =
-    let read = c.in-Nothing.ensures.reading in
-    nothing_written c.ended_without.result.status c.in-Nothing.status (events_of c.ended_without.result.events) read.0
-    _ _ c.ended_without.ensures.status c.ended_without.ensures.events read.2
-
-pub returns-in-Cut-clause-input : goal.returns-in-Cut-clause-input
-returns-in-Cut-clause-input g c =
-    let read = c.in-Cut.ensures.reading in
-    let ran = c.answer_alone-in-Cut in (
-      read.0,
-      read.1,
-      cut_read c.in-Cut.commands ran.result.status c.cut_short.result.status (events_of ran.result.events)
-          (events_of c.cut_short.result.events) read.0 _ _ read.2 ran.ensures.input ran.ensures.status
-          c.cut_short.ensures.events c.cut_short.ensures.status,
-    )
+    unanswered_output c.ended_without.result.status c.in-Nothing.status (events_of c.ended_without.result.events)
+    _ _ c.ended_without.ensures.events c.ended_without.ensures.status (c.in-Nothing.ensures.reading.2.behind)

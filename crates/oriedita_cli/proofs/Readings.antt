@@ -1,0 +1,91 @@
+-- What was read is the input of a run that answered it.
+use Rattle.std.proofs.Common.{◌≡◌, ◌≢◌, ℕ, ◌<◌, ◌≤◌, ◌⊎◌, Bool, true, false, List, [], Option, length, inl, inr, ⊎_elim, refl, sym, subst, arith, rules}
+use Rattle.std.specs.Prelude.{nat_lt, if◌then◌else◌}
+use Rattle.std.proofs.lemmas.Bool.{cases_Bool}
+use Rattle.oriedita_io.specs.Faults.{Rose}
+use Rattle.script_lang.specs.declared.command.Command.{Command}
+use Rattle.job_register.specs.declared.session.Event.{Event}
+use Rattle.oriedita_cli.specs.declared.reading.Reading.TheVariants.{Whole, Cut, Nothing, NoFile}
+use Rattle.oriedita_cli.specs.declared.opening.Unread.{Unread}
+use Rattle.oriedita_cli.specs.declared.opening.Unread.TheVariants.{Failed, TooLong}
+use Rattle.oriedita_cli.specs.Clauses.{IsAnswered, IsRead, IsUnread, ended_status}
+use Rattle.oriedita_cli.specs.Reading.{IsScript, IsNoFile}
+use Rattle.oriedita_cli.proofs.Inputs.{all_read, lines_read}
+use Rattle.oriedita_cli.proofs.Outputs.{ended_below}
+use Rattle.oriedita_cli.proofs.Unanswered.{nothing_read}
+
+pub whole_is_read : (file : List ℕ → Option (List ℕ)) (path : Option (List ℕ)) (commands : List Command)
+    (status : ℕ) (events : List Event) (bytes : List ℕ) (faults faults' : ℕ)
+    → IsScript file path (Whole commands) bytes faults faults' → IsAnswered status events commands
+    → (status ≡ ended_status events) ⊎ ((status ≡ 4) ⊎ (status ≡ 6))
+    → IsRead file path status events bytes faults faults'
+whole_is_read file path commands status events bytes faults faults' read answered ended = record {
+  first = read.first;
+  of_file = read.of_file;
+  input = all_read status events read.first bytes faults faults' (λ long. omega (arith, long, read.behind.0))
+      (subst (λ (cs : List Command). IsAnswered status events cs) read.behind.1 answered) ended;
+}
+
+-- the status of a run whose script a fault cut
+abbrev cut_status : ℕ → ℕ
+cut_status status = if nat_lt status 2 then 3 else status
+
+cut_answered : (b : Bool) (status : ℕ) (events : List Event) (commands : List Command)
+    → nat_lt status 2 ≡ b → IsAnswered status events commands
+    → IsAnswered (if b then 3 else status) events commands
+cut_answered true status events commands below answered = record {
+  all = λ _. answered.all (inl (search rules));
+  front = answered.front;
+}
+cut_answered false status events commands below answered = answered
+
+cut_ended : (b : Bool) (status : ℕ) (events : List Event) → nat_lt status 2 ≡ b
+    → (status ≡ ended_status events) ⊎ ((status ≡ 4) ⊎ (status ≡ 6))
+    → ((if b then 3 else status) ≡ 3) ⊎ (((if b then 3 else status) ≡ 4) ⊎ ((if b then 3 else status) ≡ 6))
+cut_ended true status events below ended = inl refl
+cut_ended false status events below (inr late) = inr late
+cut_ended false status events below (inl is) =
+    let low = ended_below events in absurd (search rules)
+
+pub cut_is_read : (file : List ℕ → Option (List ℕ)) (path : Option (List ℕ)) (commands : List Command)
+    (status status' : ℕ) (events events' : List Event) (bytes : List ℕ) (faults faults' : ℕ)
+    → IsScript file path (Cut commands) bytes faults faults' → IsAnswered status events commands
+    → (status ≡ ended_status events) ⊎ ((status ≡ 4) ⊎ (status ≡ 6))
+    → events' ≡ events → status' ≡ cut_status status
+    → IsRead file path status' events' bytes faults faults'
+cut_is_read file path commands status status' events events' bytes faults faults' read answered ended same is =
+    let whole = read.behind.0 in
+    let script = read.behind.2 in
+    subst (λ (es : List Event). IsRead file path status' es bytes faults faults') (sym same)
+    (subst (λ (n : ℕ). IsRead file path n events bytes faults faults') (sym is) (record {
+      first = read.first;
+      of_file = read.of_file;
+      input = lines_read (cut_status status) events read.first bytes script faults faults'
+          (λ long. omega (arith, long, whole)) read.behind.1 read.behind.3
+          (cut_answered (nat_lt status 2) status events _ refl
+          (subst (λ (cs : List Command). IsAnswered status events cs) read.behind.4 answered))
+          (cut_ended (nat_lt status 2) status events refl ended);
+    }))
+
+pub nothing_is_read : (file : List ℕ → Option (List ℕ)) (path : Option (List ℕ)) (told : ℕ)
+    (status : ℕ) (events : List Event) (bytes : List ℕ) (faults faults' : ℕ)
+    → IsScript file path (Nothing told) bytes faults faults' → status ≡ told → events ≡ []
+    → IsRead file path status events bytes faults faults'
+nothing_is_read file path told status events bytes faults faults' read is none = record {
+  first = read.first;
+  of_file = read.of_file;
+  input = nothing_read status told events read.first bytes faults faults' is none read.behind;
+}
+
+pub no_file_is_unread : (file : List ℕ → Option (List ℕ)) (path : Option (List ℕ)) (fault : Unread)
+    (status : ℕ) (events : List Event) (bytes : List ℕ) (faults faults' : ℕ)
+    → IsNoFile file path fault bytes faults faults' → events ≡ [] → 3 ≤ status
+    → (status ≡ 3 → fault ≡ Failed) → (status ≡ 5 → fault ≡ TooLong)
+    → IsUnread file path status events bytes faults faults'
+no_file_is_unread file path fault status events bytes faults faults' unread none late failed long = record {
+  none = none;
+  unread = unread.unread;
+  late = omega (arith, late);
+  failed = λ three. unread.failed (failed three);
+  long = λ five. unread.long (long five);
+}

@@ -1,0 +1,81 @@
+//! What is read before the first command is answered: the script, behind the file that the words name.
+
+ghost use Rattle.std.specs.Prelude.{◌≡◌, ℕ, ◌<◌, ◌≤◌, ◌↔◌, List, length, option_map, string_bytes};
+ghost use Rattle.std.specs.Io.KnownBytes.{Consumes, IsAtEnd};
+ghost use Rattle.oriedita_io.specs.Faults.{Rose};
+ghost use Rattle.oriedita_cli.specs.Clauses.{script_limit};
+ghost use Rattle.oriedita_cli.specs.Reading.{IsReadBehind, IsReading, IsWhole};
+
+use crate::lines::whole_lines;
+use crate::opening::{Unread, first_commands};
+use crate::running::{NO_MEMORY, TOO_LONG};
+use oriedita_io::{Input, InputEnd, LONGEST_INPUT, Opener, Source, read_all};
+use script_lang::{Commands, read_script_behind};
+use std::alloc::Global;
+
+/// What there is to answer.
+#[derive(Drop)]
+pub(crate) enum Reading {
+    Whole(Commands),
+    /// A read fault ended the bytes of the script.
+    Cut(Commands),
+    /// The script is too long, or memory was refused; the exit status.
+    Nothing(u8),
+    /// The file was not read, and so no script.
+    NoFile(Unread),
+}
+
+// The commands of a script that was read, behind the first ones. Of bytes that a read fault ended, the whole lines are the
+// script.
+fn commands_behind(alloc: Global, first: Commands, input: &Input) -> Reading
+    requires { (input.now.end ≡ InputEnd.More) ↔ (script_limit < length input.now.bytes.items) }
+    ensures reading { (faults faults' : ℕ) → (input.now.end ≡ InputEnd.Failed → Rose faults faults')
+        → IsReadBehind first result input.now.bytes.items faults faults' }
+    ensures ended { IsWhole result → input.now.end ≡ InputEnd.Ended }
+{
+    let bytes = input.bytes.as_slice();
+    match input.end {
+        InputEnd::Ended => match read_script_behind(alloc, first, bytes) {
+            Ok(commands) => Reading::Whole(commands),
+            Err(_) => Reading::Nothing(NO_MEMORY),
+        },
+        InputEnd::Failed => match read_script_behind(alloc, first, whole_lines(bytes)) {
+            Ok(commands) => Reading::Cut(commands),
+            Err(_) => Reading::Nothing(NO_MEMORY),
+        },
+        InputEnd::More => Reading::Nothing(TOO_LONG),
+    }
+}
+
+// Reads the whole script.
+fn read_behind<S: Source>(alloc: Global, first: Commands, script: &mut S) -> Reading
+    ensures reading { (bytes : List ℕ) × Consumes (S.left script.old) (S.left script.new) bytes
+        × IsReadBehind first result bytes (S.faults script.old) (S.faults script.new) }
+    ensures read_to_its_end { IsWhole result → IsAtEnd (S.left script.new) }
+    ensures faults_stay { S.faults script.old ≤ S.faults script.new }
+{
+    match read_all(alloc, script, LONGEST_INPUT) {
+        Ok(input) => commands_behind(alloc, first, &input),
+        Err(_) => Reading::Nothing(NO_MEMORY),
+    }
+}
+
+/// Reads the file that is named, where one is, and then the whole script.
+pub(crate) fn read_commands<S: Source, O: Opener>(
+    alloc: Global,
+    path: &Option<String>,
+    script: &mut S,
+    files: &mut O,
+) -> Reading
+    ensures reading { (bytes : List ℕ) × Consumes (S.left script.old) (S.left script.new) bytes
+        × IsReading (O.file files.old) (option_map string_bytes path.now) result bytes
+        (O.faults files.old) (O.faults files.new) (S.faults script.old) (S.faults script.new) }
+    ensures read_to_its_end { IsWhole result → IsAtEnd (S.left script.new) }
+    ensures faults_stay { S.faults script.old ≤ S.faults script.new }
+    ensures openings_stay { O.faults files.old ≤ O.faults files.new }
+{
+    match first_commands(alloc, path, files) {
+        Ok(first) => read_behind(alloc, first, script),
+        Err(fault) => Reading::NoFile(fault),
+    }
+}
