@@ -8,8 +8,6 @@ mod number_reading;
 mod number_writing;
 mod reading;
 mod samples;
-#[cfg(test)]
-mod tests;
 mod whole_reading;
 mod words;
 mod writing;

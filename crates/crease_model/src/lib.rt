@@ -298,6 +298,3 @@ impl Pattern {
         Pattern { sheet, pieces, aux }
     }
 }
-
-#[cfg(test)]
-mod tests;

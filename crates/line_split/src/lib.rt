@@ -4,8 +4,6 @@
 mod cutting;
 mod laws;
 mod parting;
-#[cfg(test)]
-mod tests;
 
 pub use cutting::{Cutting, SplitFault, cut_points};
 pub use laws::{cuts_are_exact, fault_is_first, parts_are_exact};

@@ -290,6 +290,3 @@ impl Region {
         }
     }
 }
-
-#[cfg(test)]
-mod tests;

@@ -5,8 +5,6 @@
 pub mod laws;
 mod search;
 mod step;
-#[cfg(test)]
-mod tests;
 mod walking;
 
 pub use search::Search;

@@ -19,6 +19,4 @@ mod mem_source;
 mod opening;
 mod reading;
 mod standard;
-#[cfg(test)]
-mod tests;
 mod writing;

@@ -302,6 +302,3 @@ impl PartialOrd for Line {
         Some(self.cmp(other))
     }
 }
-
-#[cfg(test)]
-mod tests;

@@ -10,8 +10,6 @@ mod laws;
 mod refusal;
 mod reply;
 mod script;
-#[cfg(test)]
-mod tests;
 
 pub use block::{LoadLines, LoadStop};
 pub use command::Command;

@@ -3,7 +3,5 @@
 
 pub mod laws;
 mod position;
-#[cfg(test)]
-mod tests;
 
 pub use position::Position;

@@ -5,8 +5,6 @@ pub mod laws;
 mod rule;
 mod rules;
 mod sign;
-#[cfg(test)]
-mod tests;
 
 pub use rule::Rule;
 pub use rules::Rules;

@@ -356,6 +356,3 @@ impl PartialOrd for Wide {
         Some(self.cmp(other))
     }
 }
-
-#[cfg(test)]
-mod tests;

@@ -16,6 +16,3 @@ pub use performing::perform;
 pub use piece::{LastTask, Piece, PieceEnd};
 pub use splitting::pieces;
 pub use task::Task;
-
-#[cfg(test)]
-mod tests;

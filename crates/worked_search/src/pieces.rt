@@ -1,10 +1,10 @@
-use crate::{End, JobAnswer, JobState, Kept, Outcome, Taken, perform, pieces};
 use Sign::{Over, Under};
 use sign_rules::{Order, Rule, Rules, Sign};
 use std::alloc::{AllocError, Global};
 use std::process::Abort;
 use std::sync::Arc;
 use std::test::Fail;
+use worker_split::{End, JobAnswer, JobState, Kept, Outcome, Taken, perform, pieces};
 
 // The rules of three parallel mountains, which part a square into four strips of one width, and their three
 // orders.

@@ -1,11 +1,14 @@
 //! Tables of scripts with their commands, and of replies with their texts, worked by hand.
 
-use super::*;
 use cp_text::{CpLine, LineFault, write_line, write_number};
 use crease_model::Kind;
 use crease_store::StoreRefusal;
 use itoa::Buffer;
 use plane_geometry::{Dir, Point};
+use script_lang::{
+    Command, Commands, Corners, LoadCause, LoadLines, LoadStop, Refusal, Reply, is_load,
+    read_command, read_file, read_script, refusal_of_line, write_head,
+};
 use sign_rules::{Order, Sign};
 use std::alloc::{AllocError, Global};
 use std::test::Fail;

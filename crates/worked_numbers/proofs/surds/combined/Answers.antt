@@ -5,7 +5,7 @@ use Rattle.surd_number.specs.Exact.{IsWideOf}
 use Rattle.surd_number.specs.Value.{wide_number_of}
 use Rattle.surd_number.specs.declared.Wide.{Wide}
 use Rattle.surd_number.specs.FitsLaws.{fits_same, fits_sum, fits_difference, fits_unit, fits_half_root, wide_from_fits}
-use Rattle.surd_number.proofs.tests.combined.Goals as goal
+use Rattle.worked_numbers.proofs.surds.combined.Goals as goal
 
 pub plus-requires : goal.plus-requires
 plus-requires c =

@@ -1,8 +1,11 @@
 //! Tables of directions, sides and common points, worked with exact fractions in another language.
 
-use super::*;
+use plane_geometry::{
+    Dir, Line, MeetFault, Point, Segment, SegmentFault, direction, meet, meets_at_ends, on_segment,
+    overlaps, parallel, share_point, side,
+};
 use std::test::Fail;
-use surd_number::{OutOfRange, Sgn};
+use surd_number::{OutOfRange, Sgn, Surd};
 
 type Parts = (i64, i64, u8);
 

@@ -1,8 +1,8 @@
 ghost use Rattle.std.specs.Prelude.{◌≡◌, IfOk};
 ghost use Rattle.std.specs.Arc.{arc_value};
 
-use crate::{Search, Step};
 use Sign::{Over, Under};
+use order_search::{Search, Step};
 use search_cursor::Position;
 use sign_rules::{Order, Rule, Rules, Sign};
 use std::alloc::{AllocError, Global};

@@ -1,4 +1,4 @@
-use crate::Position;
+use search_cursor::Position;
 use sign_rules::{Order, Sign};
 use std::alloc::{AllocError, Global};
 use std::test::Fail;

@@ -1,5 +1,5 @@
-use crate::{Order, Rule, Rules, Sign};
 use Sign::{Over, Under};
+use sign_rules::{Order, Rule, Rules, Sign};
 use std::alloc::{AllocError, Global};
 use std::test::Fail;
 

@@ -1,6 +1,10 @@
 //! Tables of numbers and lines as text, worked by hand.
 
-use super::*;
+use cp_text::{
+    CpLine, LineFault, NumberFault, next_line, next_word, read_ends, read_kind, read_line,
+    read_number, read_point, read_whole, sample, write_line, write_number, write_pattern,
+    write_point,
+};
 use crease_model::{Kind, Pattern, Sheet};
 use plane_geometry::Point;
 use std::test::Fail;

@@ -1,6 +1,9 @@
 ghost use Rattle.std.specs.Prelude.{◌≤◌};
 
-use super::*;
+use oriedita_io::{
+    Failed, FileOpener, InputEnd, MemFile, MemOpener, MemSink, MemSource, OpenFault, Opener, Sink,
+    StdinSource, StdoutSink, read_all, write_all,
+};
 use std::alloc::{AllocError, Global};
 use std::io;
 use std::io::{Read, Write};

@@ -1,9 +1,9 @@
 //! Tables of regions, polygons and segments, worked with exact fractions in another language.
 
-use super::*;
-use plane_geometry::have_directions;
+use open_region::Region;
+use plane_geometry::{Dir, Point, Segment, direction, have_directions};
 use std::test::Fail;
-use surd_number::OutOfRange;
+use surd_number::{OutOfRange, Surd};
 
 type Parts = (i64, i64, u8);
 

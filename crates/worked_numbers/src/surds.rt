@@ -2,8 +2,9 @@
 
 ghost use Rattle.std.specs.Prelude.{◌≤◌};
 
-use super::*;
+use std::cmp::Ordering;
 use std::test::Fail;
+use surd_number::{OutOfRange, Sgn, Surd, Wide};
 
 type Parts = (i64, i64, u8);
 

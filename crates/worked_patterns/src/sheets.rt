@@ -1,7 +1,10 @@
 //! A table of the corners of new sheets, worked by hand.
 
-use super::*;
+use crease_model::{Sheet, SheetFault};
+use plane_geometry::{Point, direction, side};
+use std::alloc::{AllocError, Global};
 use std::test::Fail;
+use surd_number::Surd;
 
 type Corners<'a> = &'a [(i32, i32)];
 

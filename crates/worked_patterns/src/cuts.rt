@@ -1,7 +1,7 @@
 //! Cut points and parts, worked by hand.
 
-use super::*;
 use crease_model::{Kind, Piece};
+use line_split::{SplitFault, cut_at, cut_points};
 use plane_geometry::{Point, Segment};
 use std::test::Fail;
 use surd_number::{OutOfRange, Surd};

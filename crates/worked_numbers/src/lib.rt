@@ -1,0 +1,9 @@
+//! Exact numbers, points and lines, and open regions, against tables worked with numbers of any size. It holds tests alone.
+#![tactic(auto)]
+
+#[cfg(test)]
+mod planes;
+#[cfg(test)]
+mod regions;
+#[cfg(test)]
+mod surds;
