@@ -1,1 +1,3 @@
 pub mod Parting
+pub mod Matches
+pub mod Accepted

@@ -1,2 +1,3 @@
 pub mod ProgramWords
-pub mod Judged
+pub mod Views
+pub mod Parser

@@ -2,8 +2,10 @@
 //! `--sample N`.
 #![tactic(auto)]
 
-mod judging;
+mod form;
+mod meaning;
 mod options;
+mod parsing;
 #[cfg(test)]
 mod tests;
 

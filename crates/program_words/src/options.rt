@@ -1,11 +1,12 @@
 //! The options of the program.
 
 ghost use Rattle.std.specs.Prelude.{◌≡◌, ◌↔◌, None, Err, map, option_map, string_bytes, IfOk, IsSomeAnd};
-ghost use Rattle.program_words.specs.ProgramWords.{Says, said_of};
-ghost use Rattle.program_words.specs.Judged.{said_by};
+ghost use Rattle.program_words.specs.ProgramWords.{Says, IsWithinLimits, said_of};
+ghost use Rattle.program_words.specs.Views.{accepted_by};
 
-use crate::judging::{Accepted, judge};
-use clap::{Arg, Command};
+use crate::meaning::{Accepted, are_accepted, meaning_of};
+use crate::parsing::matched_values;
+use clap::error::ErrorKind;
 use std::alloc::{AllocError, Global};
 use thiserror::Error;
 
@@ -43,6 +44,22 @@ impl From<AllocError> for WordsFault {
     }
 }
 
+impl From<clap::Error> for WordsFault {
+    ghost use Rattle.std.specs.Prelude.{◌≡◌, ◌↔◌};
+    ghost use Rattle.clap.specs.Words.{kind_of};
+    ghost use Rattle.clap.specs.declared.error.kind.ErrorKind.TheVariants.{OutOfMemory};
+    ghost use Rattle.program_words.specs.declared.options.WordsFault.TheVariants.{Memory};
+
+    ghost from_gives = { λ e fault. (fault ≡ Memory) ↔ (kind_of e ≡ OutOfMemory) };
+
+    fn from(e: clap::Error) -> WordsFault {
+        match e.kind() {
+            ErrorKind::OutOfMemory => WordsFault::Memory,
+            _ => WordsFault::BadWords,
+        }
+    }
+}
+
 fn own_path(alloc: Global, path: Option<&str>) -> Result<Option<String>, AllocError>
     ensures { IfOk result (λ own. option_map string_bytes own ≡ option_map (λ s. s.now) path.entry) }
 {
@@ -55,27 +72,8 @@ fn own_path(alloc: Global, path: Option<&str>) -> Result<Option<String>, AllocEr
     }
 }
 
-// The command line's parser: three options that each take one value, and no flags of its own.
-fn command<'a>(alloc: Global) -> Result<Command<'a>, AllocError> {
-    Command::new(alloc, "oriedita")
-        .no_binary_name(true)
-        .disable_help_flag(true)
-        .disable_version_flag(true)
-        .arg(Arg::new(alloc, "cp").long("cp"))?
-        .arg(Arg::new(alloc, "workers").long("workers"))?
-        .arg(Arg::new(alloc, "sample").long("sample"))
-}
-
-// Parses words that were accepted.
-fn parse(alloc: Global, words: &[String]) -> Result<(), AllocError> {
-    match command(alloc)?.try_get_matches_from(words) {
-        Ok(_) => Ok(()),
-        Err(_) => Err(AllocError),
-    }
-}
-
 fn options_of(alloc: Global, accepted: Accepted<'_>) -> Result<Options, AllocError>
-    ensures { IfOk result (λ o. Says o (said_by accepted.entry)) }
+    ensures { IfOk result (λ o. Says o (accepted_by accepted.entry)) }
 {
     let workers = match accepted.workers {
         Some(workers) => workers,
@@ -88,17 +86,22 @@ fn options_of(alloc: Global, accepted: Accepted<'_>) -> Result<Options, AllocErr
     })
 }
 
-/// The options that the words after the program's name say. The form of the words is judged first: each option at most
-/// once, its value in the next word or after an `=` in its own, a value that is not empty and does not begin with `-`,
-/// numbers in plain digits within their limits, and no file beside a sample. Other words are `BadWords`.
+/// The options that the words after the program's name say: each option at most once, its value in the next word or
+/// after an `=` in its own, a value that is not empty and does not begin with `-`, numbers in plain digits within their
+/// limits, and no file beside a sample. Other words are `BadWords`. They are judged before `clap` parses them, so that
+/// they are refused also where memory is.
 pub fn read_words(alloc: Global, words: &[String]) -> Result<Options, WordsFault>
     ensures said { IfOk result (λ o. IsSomeAnd (said_of (map string_bytes words.now)) (Says o)) }
+    ensures limits { IfOk result IsWithinLimits }
     ensures refused { (result ≡ Err WordsFault.BadWords) ↔ (said_of (map string_bytes words.now) ≡ None) }
 {
-    let Some(accepted) = judge(words) else {
+    if !are_accepted(words) {
+        return Err(WordsFault::BadWords);
+    }
+    let values = matched_values(alloc, words)?;
+    let Some(accepted) = meaning_of(values) else {
         return Err(WordsFault::BadWords);
     };
-    parse(alloc, words)?;
     let options = options_of(alloc, accepted)?;
     Ok(options)
 }

@@ -1,7 +1,7 @@
 use Rattle.std.proofs.Common.{arith}
 use Rattle.std.proofs.lemmas.Str.Pattern.{split_parts}
 use Rattle.program_words.proofs.Parting.{parts_are}
-use Rattle.program_words.proofs.judging.parts_of.Goals as goal
+use Rattle.program_words.proofs.form.parts_of.Goals as goal
 
 pub returns : goal.returns
 returns c =
