@@ -1,7 +1,6 @@
 -- What accepted words say, by their values.
-use Rattle.std.proofs.Common.{◌≡◌, ◌∙◌, ℕ, ◌≤◌, true, true≢false, is_some, refl, sym, ap, subst, List, Option, None, Some, option_and_then, unwrap_or, IfSome, IsSomeAnd, arith}
-use Rattle.program_words.specs.declared.options.Options.{Options}
-use Rattle.program_words.specs.ProgramWords.{IsWithinLimits, Said, Says, Text, Values, meaning_of, said_of, usual_workers, values_of}
+use Rattle.std.proofs.Common.{◌≡◌, true, is_some, refl, sym, ap, List, Option, None, Some, option_and_then}
+use Rattle.program_words.specs.ProgramWords.{Text, Values, meaning_of, said_of, values_of}
 
 pub accepted_form : (words : List Text) → is_some (said_of words) ≡ true → is_some (values_of words) ≡ true
 unfolding said_of

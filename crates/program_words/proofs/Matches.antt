@@ -1,19 +1,18 @@
 -- What clap makes of words that have the form: it takes them, and its matches have the values.
 use Rattle.std.proofs.Common.{◌≡◌, ◌∙◌, ℕ, Bool, true, false, true≢false, cond, not, ◌&&◌, ◌||◌, ◌==◌, is_some, refl, sym, ap, ap₂, subst, List, [], ◌∷◌, ◌++◌, Option, None, Some, option_map, option_and_then, append-nil, codes, bytes_eq, find}
-use Rattle.std.specs.Prelude.{unwrap_or, slice_get, fold}
-use Rattle.std.specs.List.{list_all, list_any}
+use Rattle.std.specs.Prelude.{slice_get, fold}
+use Rattle.std.specs.List.{list_all}
 use Rattle.std.specs.Option.{option_or}
 use Rattle.std.proofs.lemmas.Slice.Eq.{bytes_eq-Decides}
 use Rattle.std.proofs.lemmas.List.Folds.{find-append, list_any-append}
 use Rattle.clap.specs.Matches.{found_of}
 use Rattle.clap.specs.Simple.{App, HasMatchesOf, Shape, built, entered, filled, is_simple, matches_of}
 use Rattle.clap.specs.Takes.{entered_passes, is_valid, default_passes, settle_passes, takes, turn_passes, walk_passes}
-use Rattle.clap.specs.Walk.{Held, Row, Rule, Waiting, Walk, at_row, finished, first_of, has_row, idle, option, rows_of, settled_rows, stronger, used, walk_from, walked, with_default, with_values}
-use Rattle.clap.specs.declared.builder.value_parser.Reading.{Reading}
+use Rattle.clap.specs.Walk.{Held, Row, Rule, Waiting, Walk, at_row, finished, first_of, has_row, idle, option, rows_of, settled_rows, stronger, used, walked, with_default, with_values}
 use Rattle.clap.specs.declared.builder.value_parser.Reading.TheVariants.{AsWritten}
 use Rattle.clap.specs.declared.parser.matches.ArgMatches.{ArgMatches}
 use Rattle.clap.specs.declared.parser.matches.ValueSource.TheVariants.{CommandLine}
-use Rattle.program_words.specs.ProgramWords.{Text, Values, begun, is_value, no_values, parted, value_once, values_in, values_of, whole_values, with_option, with_word}
+use Rattle.program_words.specs.ProgramWords.{Text, Values, begun, is_value, no_values, parted, value_once, values_in, values_of, whole_values, with_option}
 use Rattle.program_words.proofs.Parting.{none_is_some, parted_is, some_is}
 use Rattle.program_words.specs.Parser.{matched_values, option_rule, words_app}
 
@@ -61,53 +60,33 @@ once_is None value put w e = go (is_value value) refl e
     go true t e = (refl, t, sym (some_is (put value) w e))
     go false t e = none_is_some w e
 
+-- the values where the name is that of the option, else what comes next
+abbrev values_at : Name → Text → Text → Values → Option Values → Option Values
+values_at which name value v next =
+    cond (bytes_eq name (word_of which)) (option_map (λ t. with_value which t v) (value_once (value_at which v) value)) next
+
 use_is : (name value : Text) (v w : Values) → with_option name value v ≡ Some w → IsUse name value v w
-use_is name value v w e = by_cp (bytes_eq name (codes "--cp")) refl e
+use_is name value v w e =
+    by the_cp (values_at the_workers name value v (values_at the_sample name value v None))
+    (by the_workers (values_at the_sample name value v None) (by the_sample None (none_is_some w))) e
   where
-    by_sample : (b : Bool) → bytes_eq name (codes "--sample") ≡ b
-        → cond b (option_map (λ t. record v { sample = Some t }) (value_once v.sample value)) None ≡ Some w
-        → IsUse name value v w
-    by_sample false t e = none_is_some w e
-    by_sample true t e =
-        let once = once_is v.sample value (λ t. record v { sample = Some t }) w e in
-        record {
-          which = the_sample;
-          named = (bytes_eq-Decides name (codes "--sample")).0 t;
-          first = once.0;
-          good = once.1;
-          after = once.2;
-        }
-
-    by_workers : (b : Bool) → bytes_eq name (codes "--workers") ≡ b
-        → cond b (option_map (λ t. record v { workers = Some t }) (value_once v.workers value))
-        (cond (bytes_eq name (codes "--sample")) (option_map (λ t. record v { sample = Some t }) (value_once v.sample value)) None) ≡ Some w
-        → IsUse name value v w
-    by_workers false t e = by_sample (bytes_eq name (codes "--sample")) refl e
-    by_workers true t e =
-        let once = once_is v.workers value (λ t. record v { workers = Some t }) w e in
-        record {
-          which = the_workers;
-          named = (bytes_eq-Decides name (codes "--workers")).0 t;
-          first = once.0;
-          good = once.1;
-          after = once.2;
-        }
-
-    by_cp : (b : Bool) → bytes_eq name (codes "--cp") ≡ b
-        → cond b (option_map (λ t. record v { cp = Some t }) (value_once v.cp value))
-        (cond (bytes_eq name (codes "--workers")) (option_map (λ t. record v { workers = Some t }) (value_once v.workers value))
-        (cond (bytes_eq name (codes "--sample")) (option_map (λ t. record v { sample = Some t }) (value_once v.sample value)) None)) ≡ Some w
-        → IsUse name value v w
-    by_cp false t e = by_workers (bytes_eq name (codes "--workers")) refl e
-    by_cp true t e =
-        let once = once_is v.cp value (λ t. record v { cp = Some t }) w e in
-        record {
-          which = the_cp;
-          named = (bytes_eq-Decides name (codes "--cp")).0 t;
-          first = once.0;
-          good = once.1;
-          after = once.2;
-        }
+    by : (which : Name) (next : Option Values) → (next ≡ Some w → IsUse name value v w)
+        → values_at which name value v next ≡ Some w → IsUse name value v w
+    by which next others e = go (bytes_eq name (word_of which)) refl e
+      where
+        go : (b : Bool) → bytes_eq name (word_of which) ≡ b
+            → cond b (option_map (λ t. with_value which t v) (value_once (value_at which v) value)) next ≡ Some w
+            → IsUse name value v w
+        go false t e = others e
+        go true t e =
+            let once = once_is (value_at which v) value (λ t. with_value which t v) w e in
+            record {
+              which = which;
+              named = (bytes_eq-Decides name (word_of which)).0 t;
+              first = once.0;
+              good = once.1;
+              after = once.2;
+            }
 
 -- ---- rows of matches
 
