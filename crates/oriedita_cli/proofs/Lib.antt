@@ -6,5 +6,6 @@ pub mod Progress
 pub mod Readings
 pub mod Released
 pub mod RightTasks
+pub mod Sampling
 pub mod Stopping
 pub mod Unanswered

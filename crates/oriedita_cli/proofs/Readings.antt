@@ -1,18 +1,21 @@
 -- What was read is the input of a run that answered it.
-use Rattle.std.proofs.Common.{◌≡◌, ◌≢◌, ℕ, ◌<◌, ◌≤◌, ◌⊎◌, Bool, true, false, List, [], Option, length, inl, inr, ⊎_elim, refl, sym, subst, arith, rules}
+use Rattle.std.proofs.Common.{◌≡◌, ℕ, ◌≤◌, ◌⊎◌, Bool, true, false, List, [], Option, None, Some, inl, inr, refl, sym, subst, arith, rules}
 use Rattle.std.specs.Prelude.{nat_lt, if◌then◌else◌}
-use Rattle.std.proofs.lemmas.Bool.{cases_Bool}
-use Rattle.oriedita_io.specs.Faults.{Rose}
 use Rattle.script_lang.specs.declared.command.Command.{Command}
 use Rattle.job_register.specs.declared.session.Event.{Event}
-use Rattle.oriedita_cli.specs.declared.reading.Reading.TheVariants.{Whole, Cut, Nothing, NoFile}
+use Rattle.oriedita_cli.specs.declared.reading.Reading.TheVariants.{Whole, Cut, Nothing}
 use Rattle.oriedita_cli.specs.declared.opening.Unread.{Unread}
 use Rattle.oriedita_cli.specs.declared.opening.Unread.TheVariants.{Failed, TooLong}
-use Rattle.oriedita_cli.specs.Clauses.{IsAnswered, IsRead, IsUnread, ended_status}
+use Rattle.oriedita_cli.specs.Clauses.{IsAnswered, IsRead, IsRun, IsUnread, ended_status}
+use Rattle.oriedita_cli.specs.Samples.{EndsLast, IsSampled}
+use Rattle.oriedita_cli.specs.declared.errands.Errand.{Errand}
+use Rattle.oriedita_cli.specs.declared.errands.Errand.TheVariants.{Script, Sample}
+use Rattle.oriedita_cli.specs.Errands.{IsDone}
 use Rattle.oriedita_cli.specs.Reading.{IsScript, IsNoFile}
 use Rattle.oriedita_cli.proofs.Inputs.{all_read, lines_read}
 use Rattle.oriedita_cli.proofs.Outputs.{ended_below}
-use Rattle.oriedita_cli.proofs.Unanswered.{nothing_read}
+use Rattle.oriedita_cli.proofs.Sampling.{sampled_none}
+use Rattle.oriedita_cli.proofs.Unanswered.{ended_early, none_answered, nothing_read}
 
 pub whole_is_read : (file : List ℕ → Option (List ℕ)) (path : Option (List ℕ)) (commands : List Command)
     (status : ℕ) (events : List Event) (bytes : List ℕ) (faults faults' : ℕ)
@@ -89,3 +92,40 @@ no_file_is_unread file path fault status events bytes faults faults' unread none
   failed = λ three. unread.failed (failed three);
   long = λ five. unread.long (long five);
 }
+
+-- without a sample the script was read, or nothing
+pub script_is_run : (file : List ℕ → Option (List ℕ)) (sample : Option ℕ) (path : Option (List ℕ)) (status : ℕ)
+    (events : List Event) (bytes : List ℕ) (openings openings' faults faults' : ℕ) → sample ≡ None
+    → IsUnread file path status events bytes openings openings' ⊎ IsRead file path status events bytes faults faults'
+    → IsRun file sample path status events bytes openings openings' faults faults'
+script_is_run file sample path status events bytes openings openings' faults faults' none run =
+    subst (λ s. IsRun file s path status events bytes openings openings' faults faults') (sym none) run
+
+pub sample_is_run : (file : List ℕ → Option (List ℕ)) (sample : Option ℕ) (n : ℕ) (path : Option (List ℕ))
+    (status : ℕ) (events : List Event) (bytes : List ℕ) (openings openings' faults faults' : ℕ) → sample ≡ Some n
+    → bytes ≡ [] → IsSampled status n events
+    → IsRun file sample path status events bytes openings openings' faults faults'
+sample_is_run file sample n path status events bytes openings openings' faults faults' is none sampled =
+    subst (λ s. IsRun file s path status events bytes openings openings' faults faults') (sym is) (none, sampled)
+
+-- where memory was refused no command is answered
+pub undone : (errand : Errand) (status : ℕ) (events : List Event) → events ≡ [] → status ≡ 6
+    → IsDone errand status events
+undone (Script commands) status events none six =
+    none_answered status events commands (omega (arith, six)) (λ three. omega (arith, three, six)) none
+undone (Sample n) status events none six = record {
+  commands = sampled_none n events none;
+  last = subst EndsLast (sym none) tt;
+  ended = λ low. absurd (omega (arith, low, six));
+  unread = inr (inr six);
+}
+
+-- and nothing is read
+pub unrun : (file : List ℕ → Option (List ℕ)) (sample : Option ℕ) (path : Option (List ℕ)) (status : ℕ)
+    (events : List Event) (openings openings' faults faults' : ℕ) → events ≡ [] → status ≡ 6
+    → IsRun file sample path status events [] openings openings' faults faults'
+unrun file None path status events openings openings' faults faults' none six =
+    inl (ended_early file path status events openings openings' none (omega (arith, six))
+    (λ three. omega (arith, three, six)) (λ five. omega (arith, five, six)))
+unrun file (Some n) path status events openings openings' faults faults' none six =
+    (refl, undone (Sample n) status events none six)

@@ -88,7 +88,7 @@ serves_then_stops es fs gs t u v commands more rest first second = record {
 -- ---- outcomes that are taken between commands
 
 pub goes_nowhere : (s : SessionView) → GoesOn s s
-goes_nowhere s = record { commands = refl; text = refl; running = refl; most = refl }
+goes_nowhere s = record { commands = refl; text = refl; running = refl; most = refl; asks = refl; ends = refl }
 
 pub goes_both : (r s t : SessionView) → GoesOn r s → GoesOn s t → GoesOn r t
 goes_both r s t first second = record {
@@ -96,4 +96,6 @@ goes_both r s t first second = record {
   text = second.text ∙ first.text;
   running = second.running ∙ first.running;
   most = second.most ∙ first.most;
+  asks = second.asks ∙ first.asks;
+  ends = second.ends ∙ first.ends;
 }

@@ -58,3 +58,9 @@ pub named : (o : Options) (said : Option Said) → IsSomeAnd said (Says o)
     → option_map string_bytes o.cp ≡ option_and_then (λ s. s.cp) said
 named o None says = absurd says
 named o (Some s) says = says.0
+
+-- and so is the sample
+pub sampled : (o : Options) (said : Option Said) → IsSomeAnd said (Says o)
+    → o.sample ≡ option_and_then (λ s. s.sample) said
+sampled o None says = absurd says
+sampled o (Some s) says = says.2

@@ -9,6 +9,7 @@ use Rattle.job_register.specs.declared.session.Event.{Event}
 use Rattle.job_register.specs.Legal.{commands_in, has_refusal}
 use Rattle.job_register.specs.Text.{text_of}
 use Rattle.oriedita_cli.specs.WholeLines.{AreWholeLines}
+use Rattle.oriedita_cli.specs.Samples.{IsSampled, sample_text}
 
 -- the most bytes that a script has, and a file
 abbrev pub script_limit : ℕ
@@ -79,14 +80,27 @@ pub record IsRead (file : List ℕ → Option (List ℕ)) (path : Option (List �
   pub of_file : IsFirst file path first
   pub input : IsInput status events first bytes faults faults'
 
--- The output clause, for the bytes that the sink took.
-pub record IsOutput (status : ℕ) (events : List Event) (taken taken' : Option (List ℕ))
+-- The input clause, for what was read: for a sample nothing. The faults are those of the opener and of the script's source,
+-- before and now.
+abbrev pub IsRun : (List ℕ → Option (List ℕ)) → Option ℕ → Option (List ℕ) → ℕ → List Event → List ℕ → ℕ → ℕ → ℕ → ℕ
+    → Type 0
+IsRun file (Some n) path status events bytes openings openings' faults faults' = (bytes ≡ []) × IsSampled status n events
+IsRun file None path status events bytes openings openings' faults faults' =
+    IsUnread file path status events bytes openings openings' ⊎ IsRead file path status events bytes faults faults'
+
+-- what a run writes: the text of its record, or the line of a sample
+abbrev pub written_text : Option ℕ → List Event → List ℕ
+written_text None events = text_of events
+written_text (Some n) events = sample_text n events
+
+-- The output clause, for the text of a record and the bytes that the sink took.
+pub record IsOutput (status : ℕ) (text : List ℕ) (taken taken' : Option (List ℕ))
     (finished' : Option Bool) : Type 0 where
-  -- at 0, 1 and 3 the whole text of the record is written, and the sink is finished
-  pub whole : (status < 2) ⊎ (status ≡ 3) → Appends taken taken' (text_of events)
+  -- at 0, 1 and 3 the whole text is written, and the sink is finished
+  pub whole : (status < 2) ⊎ (status ≡ 3) → Appends taken taken' text
   pub finished : (status < 2) ⊎ (status ≡ 3) → Tells finished' true
   -- the front of the text is written in any case
-  pub front : (text : List ℕ) × IsFront text (text_of events) × Appends taken taken' text
+  pub front : (written : List ℕ) × IsFront written text × Appends taken taken' written
   -- and nothing at 2 and 5
   pub none : (status ≡ 2) ⊎ (status ≡ 5) → Keeps taken taken'
 

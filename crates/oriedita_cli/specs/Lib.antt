@@ -4,3 +4,5 @@ pub mod Clauses
 pub mod Words
 pub mod Tickets
 pub mod Reading
+pub mod Samples
+pub mod Errands

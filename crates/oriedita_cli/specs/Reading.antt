@@ -1,10 +1,10 @@
 -- What is read before the first command is answered.
-use Rattle.std.specs.Prelude.{◌≡◌, ⊤, ℕ, ◌<◌, ◌≤◌, ◌⊎◌, List, [], ◌++◌, Option, length}
+use Rattle.std.specs.Prelude.{◌≡◌, ⊤, ℕ, ◌<◌, ◌≤◌, ◌⊎◌, List, [], ◌++◌, Option, None, Some, length}
 use Rattle.oriedita_io.specs.Faults.{Rose}
 use Rattle.script_lang.specs.declared.command.Command.{Command}
 use Rattle.script_lang.specs.Script.{commands_of}
 use Rattle.oriedita_cli.specs.declared.reading.Reading.{Reading}
-use Rattle.oriedita_cli.specs.declared.reading.Reading.TheVariants.{Whole, Cut, Nothing, NoFile}
+use Rattle.oriedita_cli.specs.declared.reading.Reading.TheVariants.{Whole, Cut, Nothing, NoFile, Sample}
 use Rattle.oriedita_cli.specs.declared.opening.Unread.{Unread}
 use Rattle.oriedita_cli.specs.declared.opening.Unread.TheVariants.{Failed, TooLong}
 use Rattle.oriedita_cli.specs.Clauses.{IsFirst, IsTooLong, script_limit}
@@ -21,6 +21,7 @@ IsReadBehind first (Cut commands) bytes faults faults' =
 IsReadBehind first (Nothing status) bytes faults faults' =
     ((status ≡ 5) × (script_limit < length bytes)) ⊎ (status ≡ 6)
 IsReadBehind first (NoFile fault) bytes faults faults' = ⊥
+IsReadBehind first (Sample n) bytes faults faults' = ⊥
 
 -- the file that is named was read, where one is, and then the script
 pub record IsScript (file : List ℕ → Option (List ℕ)) (path : Option (List ℕ)) (reading : Reading) (bytes : List ℕ)
@@ -36,15 +37,18 @@ pub record IsNoFile (file : List ℕ → Option (List ℕ)) (path : Option (List
   pub failed : fault ≡ Failed → Rose faults faults'
   pub long : fault ≡ TooLong → IsTooLong file path
 
--- what was read, by the faults of the opener and of the source, before and now
-abbrev pub IsReading : (List ℕ → Option (List ℕ)) → Option (List ℕ) → Reading → List ℕ → ℕ → ℕ → ℕ → ℕ → Type 0
-IsReading file path (NoFile fault) bytes openings openings' faults faults' =
-    IsNoFile file path fault bytes openings openings'
-IsReading file path reading bytes openings openings' faults faults' =
-    IsScript file path reading bytes faults faults'
+-- what was read, by the faults of the opener and of the source, before and now; for a sample nothing
+abbrev pub IsReading : (List ℕ → Option (List ℕ)) → Option ℕ → Option (List ℕ) → Reading → List ℕ → ℕ → ℕ → ℕ → ℕ
+    → Type 0
+IsReading file sample path (Sample n) bytes openings openings' faults faults' = (sample ≡ Some n) × (bytes ≡ [])
+IsReading file sample path (NoFile fault) bytes openings openings' faults faults' =
+    (sample ≡ None) × IsNoFile file path fault bytes openings openings'
+IsReading file sample path reading bytes openings openings' faults faults' =
+    (sample ≡ None) × IsScript file path reading bytes faults faults'
 
 abbrev pub IsWhole : Reading → Type 0
 IsWhole (Whole commands) = ⊤
 IsWhole (Cut commands) = ⊥
 IsWhole (Nothing status) = ⊥
 IsWhole (NoFile fault) = ⊥
+IsWhole (Sample n) = ⊥

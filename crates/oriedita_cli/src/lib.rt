@@ -2,6 +2,7 @@
 //! written; and the program round it.
 #![tactic(auto)]
 
+mod errands;
 mod folding;
 mod helping;
 mod lines;
@@ -9,6 +10,7 @@ mod opening;
 mod programs;
 mod reading;
 mod running;
+mod samples;
 mod serving;
 mod sessions;
 mod tickets;
@@ -17,4 +19,5 @@ mod workers;
 pub use folding::Folding;
 pub use programs::{program, run_arguments};
 pub use running::{Ended, run, run_alone};
+pub use samples::sample_run;
 pub use sessions::session;

@@ -1,6 +1,6 @@
 //! The whole program on a runtime: its words, files, standard input and output, and the exit status.
 
-ghost use Rattle.std.specs.Prelude.{◌≡◌, ℕ, ◌-◌, ◌<◌, ◌≤◌, ◌⊎◌, List, [], vec_len, IfErr, IfOk};
+ghost use Rattle.std.specs.Prelude.{◌≡◌, ℕ, ◌-◌, ◌<◌, ◌≤◌, ◌⊎◌, List, [], None, vec_len, IfErr, IfOk, IsSome};
 ghost use Rattle.std.specs.Io.KnownBytes.{Consumes, IsAtEnd};
 ghost use Rattle.std.specs.Process.{exit_status};
 ghost use Rattle.std.specs.Vec.Iter.{into_iter_len};
@@ -8,8 +8,8 @@ ghost use Rattle.oriedita_io.specs.Faults.{Rose};
 ghost use Rattle.job_register.specs.View.{events_of};
 ghost use Rattle.job_register.specs.FoldingRecords.{EnumeratesOrders};
 ghost use Rattle.job_register.specs.Legal.{IsLegal};
-ghost use Rattle.oriedita_cli.specs.Clauses.{IsOutput, IsRead, IsUnread, ended_status};
-ghost use Rattle.oriedita_cli.specs.Words.{AreWordsOf, file_named};
+ghost use Rattle.oriedita_cli.specs.Clauses.{IsOutput, IsRun, ended_status, written_text};
+ghost use Rattle.oriedita_cli.specs.Words.{AreWordsOf, file_named, sample_named};
 
 use crate::running::{BAD_WORDS, Ended, NO_MEMORY, READ_FAILED, WRITE_FAILED, ended_without, run};
 use job_register::laws::records_enumerate;
@@ -47,15 +47,15 @@ fn run_told<R: Threads + Wait + Sync, S: Source, O: Opener, K: Sink, G: Gate + S
 ) -> Ended
     ensures legal { IsLegal 1 (events_of result.events) }
     ensures enumeration { EnumeratesOrders 1 (events_of result.events) }
-    ensures input { (words : List (List ℕ)) × AreWordsOf arguments result.status words
+    ensures run { (words : List (List ℕ)) × AreWordsOf arguments result.status words
+        × IsOutput result.status (written_text (sample_named words) (events_of result.events))
+        (K.taken out.old) (K.taken out.new) (K.finished out.new)
+        × (IsSome (sample_named words) → (script.new ≡ script.old) × (files.new ≡ files.old))
+        × (sample_named words ≡ None → result.status < 2 → IsAtEnd (S.left script.new))
         × ((bytes : List ℕ) × Consumes (S.left script.old) (S.left script.new) bytes
-        × (IsUnread (O.file files.old) (file_named words) result.status (events_of result.events) bytes
-        (O.faults files.old) (O.faults files.new)
-        ⊎ IsRead (O.file files.old) (file_named words) result.status (events_of result.events) bytes
-        (S.faults script.old) (S.faults script.new))) }
-    ensures read_to_its_end { result.status < 2 → IsAtEnd (S.left script.new) }
-    ensures output { IsOutput result.status (events_of result.events)
-        (K.taken out.old) (K.taken out.new) (K.finished out.new) }
+        × IsRun (O.file files.old) (sample_named words) (file_named words) result.status
+        (events_of result.events) bytes (O.faults files.old) (O.faults files.new) (S.faults script.old)
+        (S.faults script.new)) }
     ensures status { result.status ≤ 6 }
     ensures refusals { result.status < 2 → result.status ≡ ended_status (events_of result.events) }
     ensures untouched { result.status ≡ BAD_WORDS
@@ -102,20 +102,18 @@ pub fn run_arguments<R: Threads + Wait + Sync, S: Source, O: Opener, K: Sink, G:
     // The enumeration clause: each folding job shows the layer orders of the version that it names.
     ensures enumeration { EnumeratesOrders 1 (events_of result.events) }
 
-    // The input clause, for the words that were told.
-    ensures input { IfOk arguments (λ told. (words : List (List ℕ)) × AreWordsOf told result.status words
+    // The input and the output clause, for the words that were told.
+    ensures run { IfOk arguments (λ told. (words : List (List ℕ)) × AreWordsOf told result.status words
+        × IsOutput result.status (written_text (sample_named words) (events_of result.events))
+        (K.taken out.old) (K.taken out.new) (K.finished out.new)
+        × (IsSome (sample_named words) → (script.new ≡ script.old) × (files.new ≡ files.old))
+        × (sample_named words ≡ None → result.status < 2 → IsAtEnd (S.left script.new))
         × ((bytes : List ℕ) × Consumes (S.left script.old) (S.left script.new) bytes
-        × (IsUnread (O.file files.old) (file_named words) result.status (events_of result.events) bytes
-        (O.faults files.old) (O.faults files.new)
-        ⊎ IsRead (O.file files.old) (file_named words) result.status (events_of result.events) bytes
-        (S.faults script.old) (S.faults script.new)))) }
+        × IsRun (O.file files.old) (sample_named words) (file_named words) result.status
+        (events_of result.events) bytes (O.faults files.old) (O.faults files.new) (S.faults script.old)
+        (S.faults script.new))) }
     ensures untold { IfErr arguments (λ _. (script.new ≡ script.old) × (files.new ≡ files.old) × (out.new ≡ out.old)
         × (events_of result.events ≡ []) × (result.status ≡ BAD_WORDS ⊎ result.status ≡ NO_MEMORY)) }
-    ensures read_to_its_end { result.status < 2 → IsAtEnd (S.left script.new) }
-
-    // The output clause.
-    ensures output { IsOutput result.status (events_of result.events)
-        (K.taken out.old) (K.taken out.new) (K.finished out.new) }
 
     // The status clause.
     ensures status { result.status ≤ 6 }

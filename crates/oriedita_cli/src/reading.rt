@@ -1,6 +1,7 @@
-//! What is read before the first command is answered: the script, behind the file that the words name.
+//! What is read before the first command is answered: the script, behind the file that the words name, or nothing for a
+//! sample.
 
-ghost use Rattle.std.specs.Prelude.{◌≡◌, ℕ, ◌<◌, ◌≤◌, ◌↔◌, List, length, option_map, string_bytes};
+ghost use Rattle.std.specs.Prelude.{◌≡◌, ℕ, ◌<◌, ◌≤◌, ◌↔◌, List, length, IsSome, option_map, string_bytes};
 ghost use Rattle.std.specs.Io.KnownBytes.{Consumes, IsAtEnd};
 ghost use Rattle.oriedita_io.specs.Faults.{Rose};
 ghost use Rattle.oriedita_cli.specs.Clauses.{script_limit};
@@ -10,6 +11,7 @@ use crate::lines::whole_lines;
 use crate::opening::{Unread, first_commands};
 use crate::running::{NO_MEMORY, TOO_LONG};
 use oriedita_io::{Input, InputEnd, LONGEST_INPUT, Opener, Source, read_all};
+use program_words::Options;
 use script_lang::{Commands, read_script_behind};
 use std::alloc::Global;
 
@@ -23,6 +25,8 @@ pub(crate) enum Reading {
     Nothing(u8),
     /// The file was not read, and so no script.
     NoFile(Unread),
+    /// A sample is to be folded, and nothing was read.
+    Sample(u32),
 }
 
 // The commands of a script that was read, behind the first ones. Of bytes that a read fault ended, the whole lines are the
@@ -60,21 +64,25 @@ fn read_behind<S: Source>(alloc: Global, first: Commands, script: &mut S) -> Rea
     }
 }
 
-/// Reads the file that is named, where one is, and then the whole script.
+/// Reads the file that is named, where one is, and then the whole script; nothing where the options name a sample.
 pub(crate) fn read_commands<S: Source, O: Opener>(
     alloc: Global,
-    path: &Option<String>,
+    options: &Options,
     script: &mut S,
     files: &mut O,
 ) -> Reading
     ensures reading { (bytes : List ℕ) × Consumes (S.left script.old) (S.left script.new) bytes
-        × IsReading (O.file files.old) (option_map string_bytes path.now) result bytes
+        × IsReading (O.file files.old) options.now.sample (option_map string_bytes options.now.cp) result bytes
         (O.faults files.old) (O.faults files.new) (S.faults script.old) (S.faults script.new) }
+    ensures untouched { IsSome options.now.sample → (script.new ≡ script.old) × (files.new ≡ files.old) }
     ensures read_to_its_end { IsWhole result → IsAtEnd (S.left script.new) }
     ensures faults_stay { S.faults script.old ≤ S.faults script.new }
     ensures openings_stay { O.faults files.old ≤ O.faults files.new }
 {
-    match first_commands(alloc, path, files) {
+    if let Some(n) = options.sample {
+        return Reading::Sample(n);
+    }
+    match first_commands(alloc, &options.cp, files) {
         Ok(first) => read_behind(alloc, first, script),
         Err(fault) => Reading::NoFile(fault),
     }

@@ -1,24 +1,25 @@
 //! The top call.
 
-ghost use Rattle.std.specs.Prelude.{◌≡◌, ◌≢◌, ℕ, ◌<◌, ◌≤◌, ◌↔◌, ◌⊎◌, List, Err, None, [], map, nat_lt, option_map, string_bytes, if◌then◌else◌, IfOk, IsSomeAnd};
+ghost use Rattle.std.specs.Prelude.{◌≡◌, ◌≢◌, ℕ, ◌<◌, ◌≤◌, ◌↔◌, ◌⊎◌, List, None, [], map, nat_lt, option_map, string_bytes, if◌then◌else◌, IfSome, IsSome};
 ghost use Rattle.std.specs.Io.KnownBytes.{Consumes, IsAtEnd};
 ghost use Rattle.oriedita_io.specs.Faults.{Rose};
 ghost use Rattle.job_register.specs.View.{events_of};
 ghost use Rattle.job_register.specs.FoldingRecords.{EnumeratesOrders};
 ghost use Rattle.job_register.specs.Legal.{IsLegal};
-ghost use Rattle.program_words.specs.ProgramWords.{Says};
-ghost use Rattle.oriedita_cli.specs.Clauses.{IsAnswered, IsOutput, IsRead, IsUnread, ended_status};
-ghost use Rattle.oriedita_cli.specs.Words.{run_said, file_named};
+ghost use Rattle.job_register.specs.Text.{text_of};
+ghost use Rattle.program_words.specs.ProgramWords.{said_of};
+ghost use Rattle.oriedita_cli.specs.Clauses.{IsOutput, IsRun, ended_status, written_text};
+ghost use Rattle.oriedita_cli.specs.Errands.{IsDone, IsErrand, IsSample, sample_of};
+ghost use Rattle.oriedita_cli.specs.Words.{file_named, sample_named};
 
+use crate::errands::{Errand, do_errand};
 use crate::opening::Unread;
 use crate::reading::{Reading, read_commands};
-use crate::sessions::session;
 use crate::workers::run_beside_workers;
 use job_register::Record;
 use job_register::laws::records_enumerate;
 use oriedita_io::{Failed, Opener, Sink, Source};
 use program_words::{Options, WordsFault, read_words};
-use script_lang::Commands;
 use std::alloc::Global;
 use std::sync::Wait;
 use std::thread::Threads;
@@ -46,9 +47,6 @@ pub const TOO_LONG: u8 = 5;
 /// Memory was refused.
 pub const NO_MEMORY: u8 = 6;
 
-/// The most worker threads.
-const MOST_WORKERS: u32 = 8;
-
 // The end of a run that answered no command.
 pub(crate) fn ended_without(alloc: Global, status: u8) -> Ended
     ensures status { result.status ≡ status }
@@ -66,8 +64,8 @@ fn ended_unopened<K: Sink>(alloc: Global, out: &mut K) -> Ended
     ensures status { (result.status ≡ READ_FAILED) ⊎ (result.status ≡ WRITE_FAILED) }
     ensures events { events_of result.events ≡ [] }
     ensures legal { IsLegal 1 (events_of result.events) }
-    ensures output { IsOutput result.status (events_of result.events) (K.taken out.old) (K.taken out.new)
-        (K.finished out.new) }
+    ensures output { IsOutput result.status (text_of (events_of result.events)) (K.taken out.old)
+        (K.taken out.new) (K.finished out.new) }
     ensures cause { result.status ≡ WRITE_FAILED → Rose (K.faults out.old) (K.faults out.new) }
     ensures faults_stay { K.faults out.old ≤ K.faults out.new }
 {
@@ -85,8 +83,8 @@ fn ended_unread<K: Sink>(alloc: Global, fault: Unread, out: &mut K) -> Ended
     ensures status { result.status ≤ 6 }
     ensures failed { result.status ≡ READ_FAILED → fault ≡ Unread.Failed }
     ensures long { result.status ≡ TOO_LONG → fault ≡ Unread.TooLong }
-    ensures output { IsOutput result.status (events_of result.events) (K.taken out.old) (K.taken out.new)
-        (K.finished out.new) }
+    ensures output { IsOutput result.status (text_of (events_of result.events)) (K.taken out.old)
+        (K.taken out.new) (K.finished out.new) }
     ensures cause { result.status ≡ WRITE_FAILED → Rose (K.faults out.old) (K.faults out.new) }
     ensures faults_stay { K.faults out.old ≤ K.faults out.new }
 {
@@ -113,24 +111,20 @@ fn cut_short(ended: Ended) -> Ended
     }
 }
 
-// Answers the commands in a new session, and writes the replies.
-fn answer_alone<R: Threads + Sync, K: Sink>(
-    rt: &R,
-    alloc: Global,
-    commands: Commands,
-    out: &mut K,
-) -> Ended
+// Does the errand in a new session, and searches all it waits for.
+fn do_alone<R: Threads + Sync, K: Sink>(rt: &R, alloc: Global, errand: Errand, out: &mut K) -> Ended
+    requires { IsErrand errand }
     ensures legal { IsLegal 1 (events_of result.events) }
-    ensures input { IsAnswered result.status (events_of result.events) commands }
-    ensures output { IsOutput result.status (events_of result.events) (K.taken out.old) (K.taken out.new)
-        (K.finished out.new) }
+    ensures done { IsDone errand result.status (events_of result.events) }
+    ensures output { IsOutput result.status (written_text (sample_of errand) (events_of result.events)) (K.taken out.old)
+        (K.taken out.new) (K.finished out.new) }
     ensures status { (result.status ≡ ended_status (events_of result.events))
         ⊎ ((result.status ≡ WRITE_FAILED) ⊎ (result.status ≡ NO_MEMORY)) }
     ensures cause { result.status ≡ WRITE_FAILED → Rose (K.faults out.old) (K.faults out.new) }
     ensures faults_stay { K.faults out.old ≤ K.faults out.new }
 {
     let mut helpers = Alone::new(alloc);
-    session(rt, alloc, 1, commands, &mut helpers, out)
+    do_errand(rt, alloc, errand, &mut helpers, out)
 }
 
 /// [`run`] with these options, but without workers: what is waited for is searched there, and the call waits for nobody.
@@ -142,17 +136,17 @@ pub fn run_alone<R: Threads + Sync, S: Source, O: Opener, K: Sink>(
     files: &mut O,
     out: &mut K,
 ) -> Ended
-    requires { options.now.sample ≡ None }
+    requires { IfSome options.now.sample IsSample }
     ensures legal { IsLegal 1 (events_of result.events) }
     ensures enumeration { EnumeratesOrders 1 (events_of result.events) }
     ensures input { (bytes : List ℕ) × Consumes (S.left script.old) (S.left script.new) bytes
-        × (IsUnread (O.file files.old) (option_map string_bytes options.now.cp) result.status
-        (events_of result.events) bytes (O.faults files.old) (O.faults files.new)
-        ⊎ IsRead (O.file files.old) (option_map string_bytes options.now.cp) result.status
-        (events_of result.events) bytes (S.faults script.old) (S.faults script.new)) }
-    ensures read_to_its_end { result.status < 2 → IsAtEnd (S.left script.new) }
-    ensures output { IsOutput result.status (events_of result.events) (K.taken out.old) (K.taken out.new)
-        (K.finished out.new) }
+        × IsRun (O.file files.old) options.now.sample (option_map string_bytes options.now.cp) result.status
+        (events_of result.events) bytes (O.faults files.old) (O.faults files.new) (S.faults script.old)
+        (S.faults script.new) }
+    ensures unread { IsSome options.now.sample → (script.new ≡ script.old) × (files.new ≡ files.old) }
+    ensures read_to_its_end { options.now.sample ≡ None → result.status < 2 → IsAtEnd (S.left script.new) }
+    ensures output { IsOutput result.status (written_text options.now.sample (events_of result.events)) (K.taken out.old)
+        (K.taken out.new) (K.finished out.new) }
     ensures status { result.status ≤ 6 }
     ensures words { result.status ≢ BAD_WORDS }
     ensures refusals { result.status < 2 → result.status ≡ ended_status (events_of result.events) }
@@ -164,22 +158,12 @@ pub fn run_alone<R: Threads + Sync, S: Source, O: Opener, K: Sink>(
     ensures sink_faults_stay { K.faults out.old ≤ K.faults out.new }
 {
     records_enumerate();
-    match read_commands(alloc, &options.cp, script, files) {
-        Reading::Whole(commands) => answer_alone(rt, alloc, commands, out),
-        Reading::Cut(commands) => cut_short(answer_alone(rt, alloc, commands, out)),
+    match read_commands(alloc, options, script, files) {
+        Reading::Whole(commands) => do_alone(rt, alloc, Errand::Script(commands), out),
+        Reading::Cut(commands) => cut_short(do_alone(rt, alloc, Errand::Script(commands), out)),
+        Reading::Sample(n) => do_alone(rt, alloc, Errand::Sample(n), out),
         Reading::Nothing(status) => ended_without(alloc, status),
         Reading::NoFile(fault) => ended_unread(alloc, fault, out),
-    }
-}
-
-// As many worker threads as the options say, of the 8 that a board has seats for.
-fn worker_count(options: &Options) -> u32
-    ensures { result ≤ 8 }
-{
-    if options.workers < MOST_WORKERS {
-        options.workers
-    } else {
-        MOST_WORKERS
     }
 }
 
@@ -193,16 +177,18 @@ fn run_beside<R: Threads + Wait + Sync, S: Source, O: Opener, K: Sink, G: Gate +
     out: &mut K,
     gate: &G,
 ) -> Ended
+    requires workers { options.now.workers ≤ 8 }
+    requires sample { IfSome options.now.sample IsSample }
     ensures legal { IsLegal 1 (events_of result.events) }
     ensures enumeration { EnumeratesOrders 1 (events_of result.events) }
     ensures input { (bytes : List ℕ) × Consumes (S.left script.old) (S.left script.new) bytes
-        × (IsUnread (O.file files.old) (option_map string_bytes options.now.cp) result.status
-        (events_of result.events) bytes (O.faults files.old) (O.faults files.new)
-        ⊎ IsRead (O.file files.old) (option_map string_bytes options.now.cp) result.status
-        (events_of result.events) bytes (S.faults script.old) (S.faults script.new)) }
-    ensures read_to_its_end { result.status < 2 → IsAtEnd (S.left script.new) }
-    ensures output { IsOutput result.status (events_of result.events) (K.taken out.old) (K.taken out.new)
-        (K.finished out.new) }
+        × IsRun (O.file files.old) options.now.sample (option_map string_bytes options.now.cp) result.status
+        (events_of result.events) bytes (O.faults files.old) (O.faults files.new) (S.faults script.old)
+        (S.faults script.new) }
+    ensures unread { IsSome options.now.sample → (script.new ≡ script.old) × (files.new ≡ files.old) }
+    ensures read_to_its_end { options.now.sample ≡ None → result.status < 2 → IsAtEnd (S.left script.new) }
+    ensures output { IsOutput result.status (written_text options.now.sample (events_of result.events)) (K.taken out.old)
+        (K.taken out.new) (K.finished out.new) }
     ensures status { result.status ≤ 6 }
     ensures words { result.status ≢ BAD_WORDS }
     ensures refusals { result.status < 2 → result.status ≡ ended_status (events_of result.events) }
@@ -213,35 +199,30 @@ fn run_beside<R: Threads + Wait + Sync, S: Source, O: Opener, K: Sink, G: Gate +
     ensures opener_faults_stay { O.faults files.old ≤ O.faults files.new }
     ensures sink_faults_stay { K.faults out.old ≤ K.faults out.new }
 {
-    let workers = worker_count(options);
+    let workers = options.workers;
     records_enumerate();
-    match read_commands(alloc, &options.cp, script, files) {
-        Reading::Whole(commands) => run_beside_workers(rt, alloc, workers, commands, gate, out),
+    match read_commands(alloc, options, script, files) {
+        Reading::Whole(commands) => {
+            run_beside_workers(rt, alloc, workers, Errand::Script(commands), gate, out)
+        }
         Reading::Cut(commands) => cut_short(run_beside_workers(
-            rt, alloc, workers, commands, gate, out,
+            rt,
+            alloc,
+            workers,
+            Errand::Script(commands),
+            gate,
+            out,
         )),
+        Reading::Sample(n) => run_beside_workers(rt, alloc, workers, Errand::Sample(n), gate, out),
         Reading::Nothing(status) => ended_without(alloc, status),
         Reading::NoFile(fault) => ended_unread(alloc, fault, out),
     }
 }
 
-// The options of words that are accepted. Samples are not run yet.
-fn accepted_options(alloc: Global, words: &[String]) -> Result<Options, WordsFault>
-    ensures said { IfOk result (λ o. IsSomeAnd (run_said (map string_bytes words.now)) (Says o)) }
-    ensures plain { IfOk result (λ o. o.sample ≡ None) }
-    ensures refused { result ≡ Err WordsFault.BadWords → run_said (map string_bytes words.now) ≡ None }
-{
-    let options = read_words(alloc, words)?;
-    if options.sample.is_some() {
-        return Err(WordsFault::BadWords);
-    }
-    Ok(options)
-}
-
 /// Judges the words, reads the file that they name and then the whole script, answers the commands one after another and
-/// writes the text of each reply; then finishes the output. The status says how it ended, and the record what was
-/// answered. As many worker threads as the words say search the tasks of folding jobs meanwhile; each passes the gate
-/// before a search.
+/// writes the text of each reply; then finishes the output. Where the words name a sample nothing is read: it is folded to
+/// its last layer order, and one line is written. The status says how it ended, and the record what was answered. As many
+/// worker threads as the words say search the tasks of folding jobs meanwhile; each passes the gate before a search.
 pub fn run<R: Threads + Wait + Sync, S: Source, O: Opener, K: Sink, G: Gate + Sync>(
     rt: &R,
     alloc: Global,
@@ -259,23 +240,25 @@ pub fn run<R: Threads + Wait + Sync, S: Source, O: Opener, K: Sink, G: Gate + Sy
 
     // The input clause.
     ensures input { (bytes : List ℕ) × Consumes (S.left script.old) (S.left script.new) bytes
-        × (IsUnread (O.file files.old) (file_named (map string_bytes words.now)) result.status
-        (events_of result.events) bytes (O.faults files.old) (O.faults files.new)
-        ⊎ IsRead (O.file files.old) (file_named (map string_bytes words.now)) result.status
-        (events_of result.events) bytes (S.faults script.old) (S.faults script.new)) }
-    ensures read_to_its_end { result.status < 2 → IsAtEnd (S.left script.new) }
+        × IsRun (O.file files.old) (sample_named (map string_bytes words.now))
+        (file_named (map string_bytes words.now)) result.status (events_of result.events) bytes
+        (O.faults files.old) (O.faults files.new) (S.faults script.old) (S.faults script.new) }
+    ensures unread { IsSome (sample_named (map string_bytes words.now))
+        → (script.new ≡ script.old) × (files.new ≡ files.old) }
+    ensures read_to_its_end { sample_named (map string_bytes words.now) ≡ None → result.status < 2
+        → IsAtEnd (S.left script.new) }
 
     // The output clause.
-    ensures output { IsOutput result.status (events_of result.events) (K.taken out.old) (K.taken out.new)
-        (K.finished out.new) }
+    ensures output { IsOutput result.status (written_text (sample_named (map string_bytes words.now)) (events_of result.events)) (K.taken out.old)
+        (K.taken out.new) (K.finished out.new) }
 
     // The status clause.
     ensures status { result.status ≤ 6 }
     ensures refusals { result.status < 2 → result.status ≡ ended_status (events_of result.events) }
-    ensures bad_words { result.status ≡ BAD_WORDS → run_said (map string_bytes words.now) ≡ None }
-    ensures refused { run_said (map string_bytes words.now) ≡ None
+    ensures bad_words { result.status ≡ BAD_WORDS → said_of (map string_bytes words.now) ≡ None }
+    ensures refused { said_of (map string_bytes words.now) ≡ None
         → (result.status ≡ BAD_WORDS) ⊎ (result.status ≡ NO_MEMORY) }
-    ensures untouched { run_said (map string_bytes words.now) ≡ None
+    ensures untouched { said_of (map string_bytes words.now) ≡ None
         → (script.new ≡ script.old) × (files.new ≡ files.old) × (out.new ≡ out.old) }
     ensures read_fault { result.status ≡ READ_FAILED → Rose (S.faults script.old) (S.faults script.new)
         ⊎ Rose (O.faults files.old) (O.faults files.new) }
@@ -285,7 +268,7 @@ pub fn run<R: Threads + Wait + Sync, S: Source, O: Opener, K: Sink, G: Gate + Sy
     ensures sink_faults_stay { K.faults out.old ≤ K.faults out.new }
 {
     records_enumerate();
-    match accepted_options(alloc, words) {
+    match read_words(alloc, words) {
         Ok(options) => {
             if options.workers == 0 {
                 return run_alone(rt, alloc, &options, script, files, out);

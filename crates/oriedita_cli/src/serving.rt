@@ -1,12 +1,13 @@
 //! Commands answered, and their replies written.
 
-ghost use Rattle.std.specs.Prelude.{◌≡◌, ◌∷◌, ◌++◌, [], ℕ, List, ◌≤◌, IsTrue, MatchResult, OnOk, OnErr, Option};
-ghost use Rattle.std.specs.List.{list_all};
+ghost use Rattle.std.specs.Prelude.{◌≡◌, ◌∷◌, ◌++◌, [], ℕ, List, ◌≤◌, false, IsTrue, MatchResult, OnOk, OnErr, Option};
+ghost use Rattle.std.specs.List.{list_all, list_any};
 ghost use Rattle.script_lang.specs.Script.{meets_condition};
 ghost use Rattle.job_register.specs.Legal.{commands_in};
 ghost use Rattle.job_register.specs.Text.{text_of, last_text};
 ghost use Rattle.oriedita_io.specs.Faults.{Rose};
-ghost use Rattle.oriedita_cli.specs.Serving.{Serves, StopsIn};
+ghost use Rattle.oriedita_cli.specs.Samples.{EndsLast, ends_asks};
+ghost use Rattle.oriedita_cli.specs.Serving.{AnswersNext, Serves, StopsIn};
 ghost use Rattle.oriedita_cli.specs.Tickets.{AreMisses, IsHelped};
 
 use crate::folding::Folding;
@@ -38,7 +39,7 @@ fn asked_job(command: &Command) -> Option<u32> {
 
 /// Answers one command. Helpers are asked first for the outcomes that a peek or a wait needs; the tasks of an ask are put
 /// right after it.
-fn answer<R: Threads + Sync, H: Helpers<Folding>>(
+pub(crate) fn answer<R: Threads + Sync, H: Helpers<Folding>>(
     rt: &R,
     alloc: Global,
     most: u32,
@@ -56,6 +57,8 @@ fn answer<R: Threads + Sync, H: Helpers<Folding>>(
         (text_of session.new.events ≡ text_of session.old.events ++ last_text session.new.events) }
     ensures stops { OnErr result ((taken : Option (List ℕ))
         → StopsIn session.old.events session.new.events taken taken (command ∷ [])) }
+    ensures answered { OnOk result (AnswersNext session.old session.new command) }
+    ensures last { list_any ends_asks session.old.events ≡ false → EndsLast session.new.events }
     ensures most { session.new.state.jobs.most ≡ session.old.state.jobs.most }
     ensures misses { H.misses helpers.old ≤ H.misses helpers.new }
     ensures running { AreMisses (H.misses helpers.old) (H.misses helpers.new) session.old.events

@@ -8,6 +8,7 @@ ghost use Rattle.job_register.specs.View.{events_of};
 ghost use Rattle.job_register.specs.Counts.{running_replies, accepted_outcomes};
 ghost use Rattle.job_register.specs.FoldingRecords.{EnumeratesOrders};
 ghost use Rattle.job_register.specs.Legal.{IsLegal};
+ghost use Rattle.job_register.specs.Text.{text_of};
 ghost use Rattle.oriedita_cli.specs.Clauses.{IsAnswered, IsOutput, ended_status};
 ghost use Rattle.oriedita_cli.specs.Tickets.{released};
 
@@ -24,7 +25,7 @@ use std::thread::Threads;
 use task_board::Helpers;
 
 // The end of a run whose commands were all answered, and their replies written.
-fn finish<K: Sink>(session: Session, out: &mut K) -> Ended
+pub(crate) fn finish<K: Sink>(session: Session, out: &mut K) -> Ended
     ensures events { events_of result.events ≡ session.events }
     ensures legal { IsLegal session.state.jobs.most session.events }
     ensures bytes { Keeps (K.taken out.old) (K.taken out.new) }
@@ -50,6 +51,23 @@ fn finish<K: Sink>(session: Session, out: &mut K) -> Ended
     }
 }
 
+// The end of a run whose answers stopped.
+pub(crate) fn stopped(session: Session, stop: Stop) -> Ended
+    ensures events { events_of result.events ≡ session.events }
+    ensures legal { IsLegal session.state.jobs.most session.events }
+    ensures status { (result.status ≡ WRITE_FAILED) ⊎ (result.status ≡ NO_MEMORY) }
+    ensures write { result.status ≡ WRITE_FAILED → stop ≡ Stop.Write }
+{
+    let status = match stop {
+        Stop::Write => WRITE_FAILED,
+        Stop::Memory => NO_MEMORY,
+    };
+    Ended {
+        status,
+        events: session.finish(),
+    }
+}
+
 /// Answers the commands in a new session and writes the replies. The tasks of an ask are put to the helpers before its
 /// reply is written. A peek takes what outcomes are there; a wait obtains what it needs, and searches what comes back.
 pub fn session<R: Threads + Sync, H: Helpers<Folding>, K: Sink>(
@@ -66,8 +84,8 @@ pub fn session<R: Threads + Sync, H: Helpers<Folding>, K: Sink>(
     ensures legal { IsLegal most (events_of result.events) }
     ensures enumeration { EnumeratesOrders most (events_of result.events) }
     ensures input { IsAnswered result.status (events_of result.events) commands }
-    ensures output { IsOutput result.status (events_of result.events) (K.taken out.old) (K.taken out.new)
-        (K.finished out.new) }
+    ensures output { IsOutput result.status (text_of (events_of result.events)) (K.taken out.old)
+        (K.taken out.new) (K.finished out.new) }
     ensures status { (result.status ≡ ended_status (events_of result.events))
         ⊎ ((result.status ≡ WRITE_FAILED) ⊎ (result.status ≡ NO_MEMORY)) }
     ensures cause { result.status ≡ WRITE_FAILED → Rose (K.faults out.old) (K.faults out.new) }
@@ -94,13 +112,6 @@ pub fn session<R: Threads + Sync, H: Helpers<Folding>, K: Sink>(
         out,
     ) {
         Ok(()) => finish(session, out),
-        Err(Stop::Write) => Ended {
-            status: WRITE_FAILED,
-            events: session.finish(),
-        },
-        Err(Stop::Memory) => Ended {
-            status: NO_MEMORY,
-            events: session.finish(),
-        },
+        Err(stop) => stopped(session, stop),
     }
 }

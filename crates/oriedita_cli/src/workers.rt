@@ -4,13 +4,13 @@ ghost use Rattle.std.specs.Prelude.{◌≡◌, ℕ, ◌+◌, ◌<◌, ◌≤◌,
 ghost use Rattle.oriedita_io.specs.Faults.{Rose};
 ghost use Rattle.job_register.specs.View.{events_of};
 ghost use Rattle.job_register.specs.Legal.{IsLegal};
-ghost use Rattle.oriedita_cli.specs.Clauses.{IsAnswered, IsOutput, ended_status};
+ghost use Rattle.oriedita_cli.specs.Clauses.{IsOutput, ended_status, written_text};
+ghost use Rattle.oriedita_cli.specs.Errands.{IsDone, IsErrand, sample_of};
 
+use crate::errands::{Errand, do_errand};
 use crate::folding::Folding;
 use crate::running::{Ended, NO_MEMORY, WRITE_FAILED, ended_without};
-use crate::sessions::session;
 use oriedita_io::Sink;
-use script_lang::Commands;
 use std::alloc::Global;
 use std::marker::Brand;
 use std::sync::Wait;
@@ -18,15 +18,14 @@ use std::sync::ledger::{Blank, Ledger};
 use std::thread::{Threads, join_mut, map_vec};
 use task_board::{Board, Gate, OverBoard, Seat, serve};
 
-// The session's seat at the board, and what is to be answered.
+// The session's seat at the board, and what it is to do.
 #[derive(Drop)]
 struct Owner<L: Ledger> {
     seat: Seat<L>,
-    commands: Commands,
+    errand: Errand,
 }
 
-// Answers the commands over the board, and closes it, so that the workers end. A second call would find nothing to
-// answer.
+// Does the errand over the board, and closes it, so that the workers end. A second call would find nothing to do.
 fn own<L: Ledger, R: Threads + Wait + Sync, K: Sink>(
     rt: &R,
     alloc: Global,
@@ -34,20 +33,22 @@ fn own<L: Ledger, R: Threads + Wait + Sync, K: Sink>(
     owner: &mut Option<Owner<L>>,
     out: &mut K,
 ) -> Ended
+    requires errand { IfSome owner.old (λ o. IsErrand o.errand) }
     ensures legal { IsLegal 1 (events_of result.events) }
-    ensures input { IfSome owner.old (λ o. IsAnswered result.status (events_of result.events) o.commands) }
-    ensures output { IsOutput result.status (events_of result.events) (K.taken out.old) (K.taken out.new)
-        (K.finished out.new) }
+    ensures done { IfSome owner.old (λ o. IsDone o.errand result.status (events_of result.events)) }
+    ensures output { IfSome owner.old (λ o. IsOutput result.status
+        (written_text (sample_of o.errand) (events_of result.events)) (K.taken out.old) (K.taken out.new)
+        (K.finished out.new)) }
     ensures status { (result.status ≡ ended_status (events_of result.events))
         ⊎ ((result.status ≡ WRITE_FAILED) ⊎ (result.status ≡ NO_MEMORY)) }
     ensures cause { result.status ≡ WRITE_FAILED → Rose (K.faults out.old) (K.faults out.new) }
     ensures faults_stay { K.faults out.old ≤ K.faults out.new }
 {
-    let Some(Owner { seat, commands }) = owner.take() else {
+    let Some(Owner { seat, errand }) = owner.take() else {
         return ended_without(alloc, NO_MEMORY);
     };
     let mut helpers = OverBoard::new(rt, alloc, board, &Folding, seat);
-    let ended = session(rt, alloc, 1, commands, &mut helpers, out);
+    let ended = do_errand(rt, alloc, errand, &mut helpers, out);
     let mut seat = helpers.into_seat();
     board.close(rt, &mut seat);
     ended
@@ -76,7 +77,7 @@ fn run_over_board<L: Ledger + Send + Sync, R: Threads + Wait + Sync, G: Gate + S
     alloc: Global,
     blank: Blank,
     seats: u32,
-    commands: Commands,
+    errand: Errand,
     gate: &G,
     out: &mut K,
 ) -> Ended
@@ -84,10 +85,11 @@ fn run_over_board<L: Ledger + Send + Sync, R: Threads + Wait + Sync, G: Gate + S
     requires parts { blank.parts ≡ L.parts }
     requires seats { blank.parts ≡ seats }
     requires range { (0 < seats) × (seats ≤ 9) }
+    requires errand { IsErrand errand }
     ensures legal { IsLegal 1 (events_of result.events) }
-    ensures input { IsAnswered result.status (events_of result.events) commands }
-    ensures output { IsOutput result.status (events_of result.events) (K.taken out.old) (K.taken out.new)
-        (K.finished out.new) }
+    ensures done { IsDone errand result.status (events_of result.events) }
+    ensures output { IsOutput result.status (written_text (sample_of errand) (events_of result.events))
+        (K.taken out.old) (K.taken out.new) (K.finished out.new) }
     ensures status { (result.status ≡ ended_status (events_of result.events))
         ⊎ ((result.status ≡ WRITE_FAILED) ⊎ (result.status ≡ NO_MEMORY)) }
     ensures cause { result.status ≡ WRITE_FAILED → Rose (K.faults out.old) (K.faults out.new) }
@@ -99,7 +101,7 @@ fn run_over_board<L: Ledger + Send + Sync, R: Threads + Wait + Sync, G: Gate + S
     let Some(seat) = seats.pop() else {
         return ended_without(alloc, NO_MEMORY);
     };
-    let mut owner = Some(Owner { seat, commands });
+    let mut owner = Some(Owner { seat, errand });
     let mut workers = Some(seats);
     let (_, ended) = join_mut(
         rt,
@@ -107,26 +109,29 @@ fn run_over_board<L: Ledger + Send + Sync, R: Threads + Wait + Sync, G: Gate + S
             Some(seats) => work(rt, alloc, &board, seats, gate),
             None => {}
         },
-        &mut || own(rt, alloc, &board, &mut owner, out),
+        &mut ||
+            requires { IfSome owner (λ o. IsErrand o.errand) }
+        { own(rt, alloc, &board, &mut owner, out) },
     );
     ended
 }
 
-/// Answers the commands in a new session, and writes the replies, beside worker threads, 1 to 8, which search the tasks of
-/// its folding jobs. Each passes the gate before a search.
+/// Does the errand in a new session, beside worker threads, 1 to 8, which search the tasks of its folding jobs. Each passes
+/// the gate before a search.
 pub(crate) fn run_beside_workers<R: Threads + Wait + Sync, G: Gate + Sync, K: Sink>(
     rt: &R,
     alloc: Global,
     workers: u32,
-    commands: Commands,
+    errand: Errand,
     gate: &G,
     out: &mut K,
 ) -> Ended
-    requires { workers ≤ 8 }
+    requires workers { workers ≤ 8 }
+    requires errand { IsErrand errand }
     ensures legal { IsLegal 1 (events_of result.events) }
-    ensures input { IsAnswered result.status (events_of result.events) commands }
-    ensures output { IsOutput result.status (events_of result.events) (K.taken out.old) (K.taken out.new)
-        (K.finished out.new) }
+    ensures done { IsDone errand result.status (events_of result.events) }
+    ensures output { IsOutput result.status (written_text (sample_of errand) (events_of result.events))
+        (K.taken out.old) (K.taken out.new) (K.finished out.new) }
     ensures status { (result.status ≡ ended_status (events_of result.events))
         ⊎ ((result.status ≡ WRITE_FAILED) ⊎ (result.status ≡ NO_MEMORY)) }
     ensures cause { result.status ≡ WRITE_FAILED → Rose (K.faults out.old) (K.faults out.new) }
@@ -134,5 +139,5 @@ pub(crate) fn run_beside_workers<R: Threads + Wait + Sync, G: Gate + Sync, K: Si
 {
     let seats = workers + 1;
     let blank = Blank::new(u64::from(seats));
-    run_over_board::<Brand, R, G, K>(rt, alloc, blank, seats, commands, gate, out)
+    run_over_board::<Brand, R, G, K>(rt, alloc, blank, seats, errand, gate, out)
 }

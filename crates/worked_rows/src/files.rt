@@ -1,4 +1,4 @@
-//! Runs with words: files that are read first, and words that are refused.
+//! Runs with words: files that are read first, samples, and words that are refused.
 
 use crate::runs::{CountedSink, ROOM, has_text};
 use oriedita_cli::run;
@@ -34,7 +34,7 @@ job 1 version 1 no more
 
 // The words, parted by spaces; the script; the replies and the status. Where the status is 2, 3 or 5 nothing is written; at 3
 // the output is finished all the same.
-const RUNS: [(&str, &str, &str, u8); 18] = [
+const RUNS: [(&str, &str, &str, u8); 22] = [
     ("--cp waterbomb.cp", FOLDED, FOLDED_REPLIES, 0),
     ("--workers 0 --cp=waterbomb.cp", FOLDED, FOLDED_REPLIES, 0),
     ("--cp waterbomb.cp --workers=8", FOLDED, FOLDED_REPLIES, 0),
@@ -58,6 +58,25 @@ const RUNS: [(&str, &str, &str, u8); 18] = [
     ("--cp=", "undo\n", "", 2),
     ("--pieces 1", "undo\n", "", 2),
     ("--sample 4", "undo\n", "", 2),
+    ("--sample 3 --cp waterbomb.cp", "undo\n", "", 2),
+    (
+        "--sample 1 --workers 0",
+        "undo\n",
+        "sample 1 faces 2 pairs 1 orders 1\n",
+        0,
+    ),
+    (
+        "--workers=8 --sample=2",
+        "undo\n",
+        "sample 2 faces 4 pairs 6 orders 1\n",
+        0,
+    ),
+    (
+        "--sample 3",
+        "undo\n",
+        "sample 3 faces 8 pairs 28 orders 1\n",
+        0,
+    ),
 ];
 
 fn file(alloc: Global, path: &str, bytes: &[u8]) -> Result<MemFile, AllocError> {

@@ -1,8 +1,7 @@
 use Rattle.std.proofs.Common.{inl, inr}
 use Rattle.job_register.specs.View.{events_of}
-use Rattle.std.specs.Prelude.{option_map, string_bytes}
-use Rattle.oriedita_cli.proofs.Outputs.{unanswered_output}
-use Rattle.oriedita_cli.proofs.Readings.{whole_is_read, cut_is_read, nothing_is_read, no_file_is_unread}
+use Rattle.oriedita_cli.proofs.Outputs.{script_output, unanswered_output}
+use Rattle.oriedita_cli.proofs.Readings.{whole_is_read, cut_is_read, nothing_is_read, no_file_is_unread, script_is_run, sample_is_run}
 use Rattle.oriedita_cli.proofs.running.run_alone.Goals as goal
 
 pub returns-in-Whole-clause-input : goal.returns-in-Whole-clause-input
@@ -10,18 +9,32 @@ returns-in-Whole-clause-input g c =
     let read = c.in-Whole.ensures.reading in (
       read.0,
       read.1,
-      inr (whole_is_read _ _ _ c.answer_alone.result.status (events_of c.answer_alone.result.events) read.0 _ _ read.2
-          c.answer_alone.ensures.input c.answer_alone.ensures.status),
+      script_is_run _ _ _ _ _ _ _ _ _ _ read.2.0
+          (inr (whole_is_read _ _ _ c.do_alone.result.status (events_of c.do_alone.result.events) read.0 _ _ read.2.1
+          c.do_alone.ensures.done c.do_alone.ensures.status)),
     )
+
+pub returns-in-Whole-clause-output : goal.returns-in-Whole-clause-output
+returns-in-Whole-clause-output g c =
+    script_output _ _ _ _ _ _ c.in-Whole.ensures.reading.2.0 c.do_alone.ensures.output
 
 pub returns-in-Cut-clause-input : goal.returns-in-Cut-clause-input
 returns-in-Cut-clause-input g c =
     let read = c.in-Cut.ensures.reading in (
       read.0,
       read.1,
-      inr (cut_is_read _ _ _ c.answer_alone-in-Cut.result.status c.cut_short.result.status (events_of c.answer_alone-in-Cut.result.events)
-          (events_of c.cut_short.result.events) read.0 _ _ read.2 c.answer_alone-in-Cut.ensures.input
-          c.answer_alone-in-Cut.ensures.status c.cut_short.ensures.events c.cut_short.ensures.status),
+      script_is_run _ _ _ _ _ _ _ _ _ _ read.2.0
+          (inr (cut_is_read _ _ _ c.do_alone-in-Cut.result.status c.cut_short.result.status (events_of c.do_alone-in-Cut.result.events)
+          (events_of c.cut_short.result.events) read.0 _ _ read.2.1 c.do_alone-in-Cut.ensures.done
+          c.do_alone-in-Cut.ensures.status c.cut_short.ensures.events c.cut_short.ensures.status)),
+    )
+
+pub returns-in-Sample-clause-input : goal.returns-in-Sample-clause-input
+returns-in-Sample-clause-input g c =
+    let read = c.in-Sample.ensures.reading in (
+      read.0,
+      read.1,
+      sample_is_run _ _ c.in-Sample.n _ _ _ read.0 _ _ _ _ read.2.0 read.2.1 c.do_alone-in-Sample.ensures.done,
     )
 
 pub returns-in-Nothing-clause-input : goal.returns-in-Nothing-clause-input
@@ -29,9 +42,10 @@ returns-in-Nothing-clause-input g c =
     let read = c.in-Nothing.ensures.reading in (
       read.0,
       read.1,
-      inr (nothing_is_read _ _ c.in-Nothing.status c.ended_without.result.status
-          (events_of c.ended_without.result.events) read.0 _ _ read.2 c.ended_without.ensures.status
-          c.ended_without.ensures.events),
+      script_is_run _ _ _ _ _ _ _ _ _ _ read.2.0
+          (inr (nothing_is_read _ _ c.in-Nothing.status c.ended_without.result.status
+          (events_of c.ended_without.result.events) read.0 _ _ read.2.1 c.ended_without.ensures.status
+          c.ended_without.ensures.events)),
     )
 
 pub returns-in-NoFile-clause-input : goal.returns-in-NoFile-clause-input
@@ -39,12 +53,17 @@ returns-in-NoFile-clause-input g c =
     let read = c.in-NoFile.ensures.reading in (
       read.0,
       read.1,
-      inl (no_file_is_unread _ _ c.in-NoFile.fault c.ended_unread.result.status
-          (events_of c.ended_unread.result.events) read.0 _ _ read.2 c.ended_unread.ensures.events
-          c.ended_unread.ensures.late c.ended_unread.ensures.failed c.ended_unread.ensures.long),
+      script_is_run _ _ _ _ _ _ _ _ _ _ read.2.0
+          (inl (no_file_is_unread _ _ c.in-NoFile.fault c.ended_unread.result.status
+          (events_of c.ended_unread.result.events) read.0 _ _ read.2.1 c.ended_unread.ensures.events
+          c.ended_unread.ensures.late c.ended_unread.ensures.failed c.ended_unread.ensures.long)),
     )
 
 pub returns-in-Nothing-clause-output : goal.returns-in-Nothing-clause-output
 returns-in-Nothing-clause-output g c =
-    unanswered_output c.ended_without.result.status c.in-Nothing.status (events_of c.ended_without.result.events)
-    _ _ c.ended_without.ensures.events c.ended_without.ensures.status (c.in-Nothing.ensures.reading.2.behind)
+    unanswered_output c.ended_without.result.status c.in-Nothing.status _ _ _ c.ended_without.ensures.status
+    (c.in-Nothing.ensures.reading.2.1.behind)
+
+pub returns-in-NoFile-clause-output : goal.returns-in-NoFile-clause-output
+returns-in-NoFile-clause-output g c =
+    script_output _ _ _ _ _ _ c.in-NoFile.ensures.reading.2.0 c.ended_unread.ensures.output

@@ -3,8 +3,10 @@ use Rattle.std.proofs.KnownBytes.{Appends-nil}
 use Rattle.script_lang.specs.declared.command.Command.{Command}
 use Rattle.job_register.specs.Text.{last_text}
 use Rattle.job_register.specs.View.{SessionView}
+use Rattle.oriedita_cli.specs.Samples.{EndsLast}
 use Rattle.oriedita_cli.specs.Serving.{StopsIn}
 use Rattle.oriedita_cli.proofs.Released.{helped_step}
+use Rattle.oriedita_cli.proofs.Sampling.{answer_last, none_last}
 use Rattle.oriedita_cli.proofs.Stopping.{on_any, stops_before, stops_in_text}
 use Rattle.oriedita_cli.proofs.serving.answer.Goals as goal
 
@@ -43,3 +45,32 @@ returns-in-None-clause-helped g c =
     (g.H.Helpers.given c.prepare.new.helpers) (g.H.Helpers.given c.prepare.new.helpers) c.prepare.new.session
     c.step.new.self c.prepare.new.tickets c.prepare.new.tickets (λ k. refl) refl refl refl c.step.ensures.right
     c.step.ensures.outcomes c.prepare.ensures.helped
+
+pub returns-in_err-prepare-clause-last : goal.returns-in_err-prepare-clause-last
+returns-in_err-prepare-clause-last g c =
+    λ unended. none_last c.prepare.new.session.events (c.prepare.ensures.goes_on.ends ∙ unended)
+
+pub returns-in_err-step-clause-last : goal.returns-in_err-step-clause-last
+returns-in_err-step-clause-last g c =
+    λ unended. subst (λ (s : SessionView). EndsLast s.events) (sym c.in_err-step.ensures.err)
+    (none_last c.prepare.new.session.events (c.prepare.ensures.goes_on.ends ∙ unended))
+
+pub returns-in-Some-clause-last : goal.returns-in-Some-clause-last
+returns-in-Some-clause-last g c =
+    answer_last c.args.session.now c.step.new.self c.args.command (record {
+      between = c.prepare.new.session;
+      goes_on = c.prepare.ensures.goes_on;
+      reply = c.in_ok-step.ensures.answer.0;
+      answer = c.in_ok-step.ensures.answer.2;
+      event = c.in_ok-step.ensures.answer.1;
+    })
+
+pub returns-in-None-clause-last : goal.returns-in-None-clause-last
+returns-in-None-clause-last g c =
+    answer_last c.args.session.now c.step.new.self c.args.command (record {
+      between = c.prepare.new.session;
+      goes_on = c.prepare.ensures.goes_on;
+      reply = c.in_ok-step.ensures.answer.0;
+      answer = c.in_ok-step.ensures.answer.2;
+      event = c.in_ok-step.ensures.answer.1;
+    })

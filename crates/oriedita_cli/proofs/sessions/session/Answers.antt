@@ -1,4 +1,5 @@
-use Rattle.std.proofs.Common.{◌≡◌, ◌++◌, [], List, ap, ◌∙◌, arith}
+use Rattle.std.proofs.Common.{◌≡◌, ◌++◌, [], List, sym, ap, subst, ◌∙◌, arith}
+use Rattle.std.specs.Io.KnownBytes.{Appends}
 use Rattle.job_register.specs.declared.session.Event.{Event}
 use Rattle.job_register.specs.Text.{text_of}
 use Rattle.job_register.specs.View.{SessionView}
@@ -18,7 +19,9 @@ returns-in-Ok-serve_all-clause-output g c =
     let begins : c.in-Ok.session.events ≡ [] = ap (λ (v : SessionView). v.events) c.in-Ok.ensures in
     let text : text_of es ≡ served.text =
     served.text_is ∙ ap (λ (fs : List Event). text_of fs ++ served.text) begins in
-    finished_output c.finish.result.status c.finish.result.events.list.items es
+    let whole = sym (ap text_of c.finish.ensures.events ∙ text) in
+    finished_output c.finish.result.status es (text_of c.finish.result.events.list.items)
     (g.K.Sink.taken c.args.out.now) (g.K.Sink.taken c.serve_all.new.out) (g.K.Sink.taken c.finish.new.out)
-    (g.K.Sink.finished c.finish.new.out) served.text c.finish.ensures.events text served.written
+    (g.K.Sink.finished c.finish.new.out)
+    (subst (λ xs. Appends (g.K.Sink.taken c.args.out.now) (g.K.Sink.taken c.serve_all.new.out) xs) whole served.written)
     c.finish.ensures.bytes c.finish.ensures.status c.finish.ensures.finished
