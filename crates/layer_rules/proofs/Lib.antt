@@ -14,6 +14,8 @@ mod RulesMade
 mod PlacedSigns
 mod TortillaRules
 mod TacoRules
+mod OneLine
+mod CreasesOnLine
 mod Beside
 mod OrderRules
 mod RulesInOrder

@@ -15,5 +15,6 @@ pub mod FacePlaces
 pub mod TacoTortilla
 pub mod TacoTaco
 pub mod TacoTurns
+pub mod CreaseLines
 pub mod LayerOrder
 pub mod Layering

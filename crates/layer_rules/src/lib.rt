@@ -2,6 +2,7 @@
 #![tactic(auto)]
 
 mod circles;
+mod crease_lines;
 mod creases;
 mod face_pairs;
 mod face_places;

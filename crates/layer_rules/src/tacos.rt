@@ -11,12 +11,14 @@ ghost use Rattle.plane_geometry.specs.Stretch.{ShareTwoPoints};
 ghost use Rattle.isometry_map.specs.Folded.{FoldedView};
 ghost use Rattle.sign_rules.specs.declared.sign.Sign.{Sign};
 ghost use Rattle.sign_rules.specs.Rules.{are_rules_on, is_broken};
+ghost use Rattle.layer_rules.specs.CreaseLines.{AreByLine};
 ghost use Rattle.layer_rules.specs.FacePairs.{Precedes, IsPairList, most_pairs};
 ghost use Rattle.layer_rules.specs.Insides.{AreInsides};
 ghost use Rattle.layer_rules.specs.RuleMeaning.{MakesRule, MakesRules};
 ghost use Rattle.layer_rules.specs.TacoTaco.{HasNothingLeftOf, HaveNothingLeftOf, LieOnOneSide, BreaksTacoTacoAt, BreaksTacoTacoWith, BreaksTacoTaco};
 ghost use Rattle.layer_rules.specs.TacoTurns.{is_turned_oddly};
 
+use crate::crease_lines::{LinedCrease, by_line, line_of, on_line};
 use crate::face_pairs::FacePair;
 use crate::face_places::place_of;
 use crate::regions::insides;
@@ -42,29 +44,41 @@ pub fn taco_rules(
     ensures rules { IfOk result (λ v. IsTrue (are_rules_on (length pairs.now) v.items)) }
 {
     let insides = insides(alloc, folded.faces())?;
+    let lined = by_line(alloc, folded.creases())?;
     let mut rules = Vec::new(alloc);
     for crease in folded.creases() {
-        push_tacos(&mut rules, folded, insides.as_slice(), pairs, crease)?;
+        push_tacos(
+            &mut rules,
+            folded,
+            insides.as_slice(),
+            pairs,
+            lined.as_slice(),
+            crease,
+        )?;
     }
     Ok(rules)
 }
 
-/// Those of one crease, with each whose first face comes after its own.
+/// Those of one crease, with each whose first face comes after its own. Only images on one line have a part in common.
 fn push_tacos(
     rules: &mut Vec<Rule>,
     folded: &Folded,
     insides: &[Region],
     pairs: &[FacePair],
+    lined: &[LinedCrease],
     first: &CreaseImage,
 ) -> Result<(), AllocError>
     requires insides { AreInsides folded.now.faces insides.now }
     requires pairs { IsPairList folded.now pairs.now }
     requires few { length pairs.now ≤ most_pairs }
+    requires lined { AreByLine folded.now.creases lined.now }
     ensures { OnOk result (MakesRules (length pairs.now) (BreaksTacoTacoWith folded.now pairs.now first.now)
         rules.old.items rules.new.items) }
 {
-    for second in folded.creases() {
-        push_rule(rules, taco(insides, pairs, first, second))?;
+    let line = line_of(&first.image);
+    let near = on_line(lined, &line);
+    for second in near {
+        push_rule(rules, taco(insides, pairs, first, &second.crease))?;
     }
     Ok(())
 }

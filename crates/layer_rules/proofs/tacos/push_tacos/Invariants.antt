@@ -1,4 +1,5 @@
 use Rattle.std.proofs.Common.{length}
+use Rattle.layer_rules.specs.declared.crease_lines.LinedCrease.{LinedCrease}
 use Rattle.layer_rules.specs.RuleMeaning.{MakesRules, ForSomeBelow}
 use Rattle.layer_rules.specs.TacoTaco.{BreaksTacoTacoAt}
 use Rattle.layer_rules.proofs.RulesMade.{AtPlace}
@@ -7,6 +8,7 @@ use Rattle.layer_rules.proofs.tacos.push_tacos.Given as goal
 abbrev pub invariant-loop-second : goal.invariant-loop-second
 invariant-loop-second l =
     MakesRules (length l.pairs)
-    (ForSomeBelow (AtPlace (length l.pairs) l.folded.creases (BreaksTacoTacoAt l.folded l.pairs l.first))
+    (ForSomeBelow
+    (AtPlace (length l.pairs) l.near (λ (x : LinedCrease). BreaksTacoTacoAt l.folded l.pairs l.first x.crease))
     l.second-index)
     l.initial.rules.items l.rules.items

@@ -4,6 +4,8 @@ use Rattle.open_region.specs.declared.Region.{Region}
 use Rattle.isometry_map.specs.declared.folded.FoldedFace.{FoldedFace}
 use Rattle.isometry_map.specs.declared.folded.CreaseImage.{CreaseImage}
 use Rattle.sign_rules.specs.declared.rule.Rule.{Rule}
+use Rattle.layer_rules.specs.declared.crease_lines.LinedCrease.{LinedCrease}
+use Rattle.layer_rules.specs.CreaseLines.{AreByLine}
 use Rattle.layer_rules.specs.Insides.{AreInsides}
 use Rattle.layer_rules.specs.RuleMeaning.{MakesRules, ForSomeBelow}
 use Rattle.layer_rules.specs.TacoTaco.{BreaksTacoTacoWith, BreaksTacoTaco}
@@ -16,6 +18,12 @@ push_tacos-requires-clause-insides c =
     subst (λ (l : List FoldedFace). AreInsides l c.as_slice.result.now) c.faces.ensures.value
     (subst (λ (l : List Region). AreInsides c.faces.result.now l) (sym c.as_slice.ensures.value)
     c.in_ok-insides.ensures)
+
+pub push_tacos-requires-clause-lined : goal.push_tacos-requires-clause-lined
+push_tacos-requires-clause-lined c =
+    subst (λ (l : List CreaseImage). AreByLine l c.as_slice-in-loop-crease.result.now) c.creases.ensures
+    (subst (λ (l : List LinedCrease). AreByLine c.creases.result.now l) (sym c.as_slice-in-loop-crease.ensures.value)
+    c.in_ok-lined.ensures)
 
 pub loop-crease-init : goal.loop-crease-init
 loop-crease-init c =
