@@ -1,5 +1,5 @@
 -- What a face has left of a line, by its region.
-use Rattle.std.proofs.Common.{◌≡◌, ℕ, zero, suc, ◌-◌, ◌<◌, ◌≤◌, Bool, true, false, not, List, [], ◌∷◌, length, Option, Some, None, refl, sym, subst, ◌∙◌, arith}
+use Rattle.std.proofs.Common.{◌≡◌, ℕ, zero, suc, ◌-◌, ◌<◌, ◌≤◌, Bool, true, false, not, List, [], ◌∷◌, length, Option, None, refl, subst, arith}
 use Rattle.std.specs.Prelude.{◌↔◌, slice_index_or}
 use Rattle.std.specs.Bool.{IsTrue}
 use Rattle.std.specs.List.{slice_get}
@@ -12,7 +12,7 @@ use Rattle.open_region.specs.Region.{IsInRegion, IsLeftOf, HasPoint}
 use Rattle.isometry_map.specs.declared.folded.CreaseImage.{CreaseImage}
 use Rattle.isometry_map.specs.declared.folded.FoldedFace.{FoldedFace}
 use Rattle.isometry_map.specs.Folded.{FoldedView}
-use Rattle.layer_rules.specs.Faces.{numbered, is_inside_face, IsInside}
+use Rattle.layer_rules.specs.Faces.{is_inside_face, IsInside}
 use Rattle.layer_rules.specs.Insides.{IsInsideOf, AreInsides}
 use Rattle.layer_rules.specs.TacoTaco.{HasNothingLeftOf, HaveNothingLeftOf}
 use Rattle.layer_rules.proofs.InsideRegions.{inside_at}

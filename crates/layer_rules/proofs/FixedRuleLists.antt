@@ -1,26 +1,25 @@
 -- What the rules of creases mean.
-use Rattle.std.proofs.Common.{◌≡◌, ◌≢◌, ℕ, zero, suc, ◌+◌, ◌<◌, ◌≤◌, ◌⊎◌, inl, inr, Bool, true, false, cond, not, List, [], ◌∷◌, ◌++◌, length, drop, Option, Some, None, refl, sym, ap, ap₂, subst, ◌∙◌, arith}
-use Rattle.std.specs.Prelude.{◌↔◌, ◌&&◌, ◌||◌, ◌==◌, nat_lt, slice_index_or}
+use Rattle.std.proofs.Common.{◌≡◌, ℕ, zero, suc, ◌+◌, ◌<◌, ◌≤◌, ◌⊎◌, inl, inr, Bool, true, false, cond, not, List, [], ◌∷◌, ◌++◌, length, drop, Option, Some, None, refl, sym, ap, subst, ◌∙◌, arith}
+use Rattle.std.specs.Prelude.{◌&&◌, ◌||◌, ◌==◌, nat_lt, slice_index_or}
 use Rattle.std.specs.Bool.{IsTrue}
-use Rattle.std.specs.List.{AllPairs, Contains, list_any, list_all, slice_get}
+use Rattle.std.specs.List.{Contains, list_any, slice_get}
 use Rattle.std.proofs.lemmas.Bool.{and_parts, and_from, true≢false, false≢true, cases_lt, ltb-true, lt-ltb}
 use Rattle.std.proofs.lemmas.List.{append-nil, drop_all}
 use Rattle.std.proofs.lemmas.List.Elements.{Contains-append_left, Contains-append_right, Contains-append_cases}
 use Rattle.crease_model.specs.declared.Kind.{Kind}
 use Rattle.crease_model.specs.declared.Kind.TheVariants.{Edge, Mountain, Valley, Aux}
-use Rattle.isometry_map.specs.declared.folded.FoldedFace.{FoldedFace}
 use Rattle.isometry_map.specs.declared.folded.CreaseImage.{CreaseImage}
 use Rattle.isometry_map.specs.Folded.{FoldedView}
 use Rattle.sign_rules.specs.declared.sign.Sign.{Sign}
 use Rattle.sign_rules.specs.declared.sign.Sign.TheVariants.{Over, Under}
 use Rattle.sign_rules.specs.declared.rule.Rule.{Rule}
-use Rattle.sign_rules.specs.declared.rule.Rule.TheVariants.{Fixed, Equal, Even, NotCyclic}
+use Rattle.sign_rules.specs.declared.rule.Rule.TheVariants.{Fixed}
 use Rattle.sign_rules.specs.Signs.{is_over, over_at}
-use Rattle.sign_rules.specs.Rule.{is_same, is_rule_on, is_met}
-use Rattle.sign_rules.specs.Rules.{are_rules_on, is_decided, is_broken}
+use Rattle.sign_rules.specs.Rule.{is_same, is_met}
+use Rattle.sign_rules.specs.Rules.{is_decided, is_broken}
 use Rattle.layer_rules.specs.declared.face_pairs.FacePair.{FacePair}
 use Rattle.layer_rules.specs.Faces.{numbered, turned_at, is_shared_by}
-use Rattle.layer_rules.specs.FacePairs.{Precedes, IsPairList}
+use Rattle.layer_rules.specs.FacePairs.{IsPairList}
 use Rattle.layer_rules.specs.Above.{above}
 use Rattle.layer_rules.specs.CreaseCondition.{front_is_above, IsFold, BreaksCreaseCondition}
 use Rattle.layer_rules.specs.FixedRules.{sign_for, sign_across, is_given, is_wanted, fixed_rule, fixed_rules, fixed_rules_from}

@@ -1,6 +1,6 @@
 -- Why a pattern has no layers, by what the calls below say.
-use Rattle.std.specs.Prelude.{Result, Ok, Err, ◌↔◌, MatchResult}
-use Rattle.std.proofs.Common.{◌≡◌, ◌≢◌, ℕ, ◌<◌, List, refl}
+use Rattle.std.specs.Prelude.{Result, Err, ◌↔◌}
+use Rattle.std.proofs.Common.{◌≡◌, ℕ, ◌<◌}
 use Rattle.plane_geometry.specs.declared.Point.{Point}
 use Rattle.plane_geometry.specs.declared.Dir.{Dir}
 use Rattle.crease_model.specs.View.{PatternView}
@@ -12,7 +12,6 @@ use Rattle.face_builder.specs.View.{FaceMapView}
 use Rattle.wireframe_fold.specs.declared.faults.WireFault.{WireFault}
 use Rattle.wireframe_fold.specs.declared.faults.WireFault.TheVariants as wire
 use Rattle.wireframe_fold.specs.Fold.{IsWireFault}
-use Rattle.layer_rules.specs.declared.face_pairs.FacePair.{FacePair}
 use Rattle.layer_rules.specs.declared.face_pairs.PairsFault.{PairsFault}
 use Rattle.layer_rules.specs.declared.face_pairs.PairsFault.TheVariants as pairs
 use Rattle.layer_rules.specs.declared.layering.InstanceFault.{InstanceFault}

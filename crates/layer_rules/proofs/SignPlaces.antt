@@ -1,14 +1,13 @@
 -- The signs that a list gives pairs, by the places of the pairs.
-use Rattle.std.proofs.Common.{◌≡◌, ℕ, zero, suc, ◌<◌, ◌≤◌, ◌⊎◌, inl, inr, Bool, true, false, cond, not, List, [], ◌∷◌, length, Option, Some, None, refl, sym, ap, ap₂, subst, ◌∙◌, arith}
-use Rattle.std.specs.Prelude.{nat_lt, ◌&&◌, ◌==◌}
+use Rattle.std.proofs.Common.{◌≡◌, ℕ, zero, suc, ◌<◌, inl, inr, Bool, true, false, cond, not, List, [], ◌∷◌, length, Option, Some, None, refl, sym, ap, ap₂, subst, ◌∙◌, arith}
+use Rattle.std.specs.Prelude.{◌==◌}
 use Rattle.std.specs.List.{AllPairs, Contains, slice_get, slice_index_or}
 use Rattle.std.specs.Option.{option_map}
-use Rattle.std.proofs.lemmas.Bool.{and_parts, true≢false, lt-ltb, le-ltb, eqb-true}
+use Rattle.std.proofs.lemmas.Bool.{and_parts, lt-ltb, le-ltb, eqb-true}
 use Rattle.std.proofs.lemmas.Bool.Decides.{nat_tests}
 use Rattle.std.proofs.lemmas.List.Elements.{All-contains}
 use Rattle.sign_rules.specs.declared.sign.Sign.{Sign}
-use Rattle.sign_rules.specs.declared.sign.Sign.TheVariants.{Over, Under}
-use Rattle.sign_rules.specs.Signs.{is_over, over_at}
+use Rattle.sign_rules.specs.Signs.{is_over}
 use Rattle.layer_rules.specs.declared.face_pairs.FacePair.{FacePair}
 use Rattle.layer_rules.specs.FacePairs.{Precedes}
 use Rattle.layer_rules.specs.Above.{is_pair_of, sign_of_pair, above}

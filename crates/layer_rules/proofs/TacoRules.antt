@@ -1,29 +1,27 @@
 -- The rule of two creases that lie on one another.
-use Rattle.std.proofs.Common.{◌≡◌, ◌≢◌, ℕ, ◌+◌, ◌-◌, ◌%◌, ◌<◌, ◌≤◌, ◌⊎◌, inl, inr, Bool, true, false, cond, not, List, [], ◌∷◌, length, Option, Some, None, refl, sym, ap, ap₂, subst, ◌∙◌, arith}
-use Rattle.std.specs.Prelude.{◌↔◌, ◌&&◌, ◌||◌, ◌==◌, nat_lt, count_by}
+use Rattle.std.proofs.Common.{◌≡◌, ℕ, ◌%◌, ◌<◌, inl, inr, Bool, true, false, not, List, [], ◌∷◌, length, Some, refl, sym, ap, ap₂, ◌∙◌, arith}
+use Rattle.std.specs.Prelude.{◌&&◌, ◌||◌, ◌==◌, nat_lt, count_by}
 use Rattle.std.specs.Bool.{IsTrue}
-use Rattle.std.specs.List.{AllPairs, Contains, slice_get}
-use Rattle.std.proofs.lemmas.Bool.{and_parts, and_from, true≢false, false≢true, lt-ltb, ltb-true, eqb-true, ne_eqb}
-use Rattle.std.proofs.lemmas.Bool.Decides.{nat_tests}
+use Rattle.std.specs.List.{Contains, slice_get}
+use Rattle.std.proofs.lemmas.Bool.{and_parts, and_from, lt-ltb, ltb-true, eqb-true, ne_eqb}
 use Rattle.isometry_map.specs.declared.folded.CreaseImage.{CreaseImage}
 use Rattle.isometry_map.specs.Folded.{FoldedView}
 use Rattle.sign_rules.specs.declared.sign.Sign.{Sign}
 use Rattle.sign_rules.specs.declared.rule.Rule.{Rule}
-use Rattle.sign_rules.specs.declared.rule.Rule.TheVariants.{Fixed, Equal, Even, NotCyclic}
+use Rattle.sign_rules.specs.declared.rule.Rule.TheVariants.{Even}
 use Rattle.sign_rules.specs.Signs.{over_at}
 use Rattle.sign_rules.specs.Rule.{is_same, is_rule_on, is_met}
 use Rattle.sign_rules.specs.Rules.{is_decided, is_broken}
 use Rattle.plane_geometry.specs.Stretch.{ShareTwoPoints}
 use Rattle.plane_geometry.specs.SegmentView.{stretch_of}
 use Rattle.layer_rules.specs.declared.face_pairs.FacePair.{FacePair}
-use Rattle.layer_rules.specs.FacePairs.{Precedes, IsPairList, ArePair}
-use Rattle.layer_rules.specs.Above.{above}
+use Rattle.layer_rules.specs.FacePairs.{IsPairList, ArePair}
 use Rattle.layer_rules.specs.FacePlaces.{lesser_first}
-use Rattle.layer_rules.specs.RuleMeaning.{IsRuleFor, ForSomeBelow}
-use Rattle.layer_rules.specs.TacoTaco.{LieOnOneSide, IsTacoTaco, IsOddCount, Pinches, BreaksTacoTacoAt, BreaksTacoTaco}
+use Rattle.layer_rules.specs.RuleMeaning.{IsRuleFor}
+use Rattle.layer_rules.specs.TacoTaco.{LieOnOneSide, Pinches, BreaksTacoTacoAt}
 use Rattle.layer_rules.specs.TacoTurns.{is_turned_oddly}
-use Rattle.layer_rules.proofs.SignPlaces.{pair_of, some_is, get_below, get_contains}
-use Rattle.layer_rules.proofs.PlacedSigns.{pair_there, there_pair, above_decided, above_read}
+use Rattle.layer_rules.proofs.SignPlaces.{get_below, get_contains}
+use Rattle.layer_rules.proofs.PlacedSigns.{there_pair, above_decided, above_read}
 use Rattle.layer_rules.proofs.TortillaRules.{same_shuffled, one_pair_of, other_place}
 
 -- ---- an odd number of four

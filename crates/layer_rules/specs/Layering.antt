@@ -1,7 +1,5 @@
 -- The layers of a pattern: its folded shape, its pairs of faces, and the rules on their signs; or why it has none.
 use Rattle.std.specs.Prelude.{◌≡◌, ℕ, ◌<◌, ◌≤◌, List, length, map, ⊤}
-use Rattle.plane_geometry.specs.declared.Point.{Point}
-use Rattle.plane_geometry.specs.declared.Dir.{Dir}
 use Rattle.crease_model.specs.declared.Kind.{Kind}
 use Rattle.crease_model.specs.declared.Piece.{Piece}
 use Rattle.crease_model.specs.View.{PatternView}

@@ -1,6 +1,6 @@
 -- The order of rules: those of creases, of taco-tortilla, of taco-taco, of transitivity; of one form by the pairs that
 -- they name, in the order in which the form names them; of the same pairs Over first, or false first.
-use Rattle.std.specs.Prelude.{ℕ, Bool, false, not}
+use Rattle.std.specs.Prelude.{false, not}
 use Rattle.std.specs.Ordering.{nat_cmp, bool_cmp, ordering_then}
 use Rattle.std.specs.declared.cmp.Ordering.{Ordering}
 use Rattle.sign_rules.specs.Signs.{is_over}
