@@ -44,7 +44,8 @@ fn with_lines(alloc: Global, creases: &[CreaseImage]) -> Result<Vec<LinedCrease>
     Ok(lined)
 }
 
-/// The creases with their lines, those on one line together.
+/// The creases with their lines, those on one line together. These keep their order, so that rules are found almost
+/// sorted, which their last sort is quickest at.
 pub(crate) fn by_line(
     alloc: Global,
     creases: &[CreaseImage],
@@ -52,7 +53,7 @@ pub(crate) fn by_line(
     ensures { IfOk result (λ v. AreByLine creases.now v.items) }
 {
     let mut lined = with_lines(alloc, creases)?;
-    lined.sort_unstable_by_key(|x| x.line);
+    lined.sort_by_key(|x| x.line)?;
     Ok(lined)
 }
 
