@@ -290,6 +290,16 @@ impl Pattern {
         })
     }
 
+    /// The sheet, the pieces and the auxiliary lines, which the pattern gives up.
+    pub fn into_parts(self) -> (Sheet, Vec<Piece>, Vec<Segment>)
+        ensures value { self ≡ record { corners = result.0; pieces = result.1.items; aux = result.2.items } }
+        ensures sheet { IsTrue (is_sheet self.corners) }
+        ensures rules { IsPattern self }
+    {
+        let Pattern { sheet, pieces, aux } = self;
+        (sheet, pieces, aux)
+    }
+
     /// The pattern of these parts.
     pub fn of(sheet: Sheet, pieces: Vec<Piece>, aux: Vec<Segment>) -> Pattern
         requires { IsPattern (record { corners = sheet; pieces = pieces.items; aux = aux.items }) }

@@ -24,4 +24,3 @@ pub mod OwnLines
 mod InOneWalk
 mod OwnCuts
 mod Reach
-mod ThereAlready

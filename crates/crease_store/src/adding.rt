@@ -157,40 +157,41 @@ fn cut_parts(
 
 fn add_cut(
     alloc: Global,
-    pattern: &Pattern,
+    pattern: Pattern,
     kind: Kind,
     s: &Segment,
     cutting: &Cutting,
 ) -> Result<Pattern, StoreFault>
-    requires rules { IsPattern pattern.now }
-    requires sheet { IsTrue (is_sheet pattern.now.corners) }
+    requires rules { IsPattern pattern }
+    requires sheet { IsTrue (is_sheet pattern.corners) }
     requires kind { IsTrue (is_crease_kind kind) }
-    requires on_sheet { IsTrue (is_on_sheet pattern.now.corners (stretch_of s.now)) }
-    requires inside { IsFalse (is_within_side pattern.now.corners (stretch_of s.now)) }
-    requires cuts { cuts_of s.now pattern.now.pieces ≡ Ok cutting.now.points.items }
-    requires touched { cutting.now.touched.items ≡ touched (stretch_of s.now) pattern.now.pieces }
-    requires others { cutting.now.others.items ≡ untouched (stretch_of s.now) pattern.now.pieces }
-    ensures { IsAnswer result (if_it_fits (with_crease pattern.now kind s.now cutting.now.points.items)) }
+    requires on_sheet { IsTrue (is_on_sheet pattern.corners (stretch_of s.now)) }
+    requires inside { IsFalse (is_within_side pattern.corners (stretch_of s.now)) }
+    requires cuts { cuts_of s.now pattern.pieces ≡ Ok cutting.now.points.items }
+    requires touched { cutting.now.touched.items ≡ touched (stretch_of s.now) pattern.pieces }
+    requires others { cutting.now.others.items ≡ untouched (stretch_of s.now) pattern.pieces }
+    ensures { IsAnswer result (if_it_fits (with_crease pattern kind s.now cutting.now.points.items)) }
 {
     let parts = cut_parts(alloc, kind, s, cutting)?;
     let pieces = place_pieces(alloc, cutting.others.as_slice(), parts)?;
-    let size = pieces.as_slice().len() + pattern.aux().len();
+    let (sheet, _, aux) = pattern.into_parts();
+    let size = pieces.len() + aux.len();
     if size > MOST_PIECES {
         return Err(StoreFault::TooManyPieces {
             pieces: size as u32,
         });
     }
-    Ok(pattern.with_pieces(pieces)?)
+    Ok(Pattern::of(sheet, pieces, aux))
 }
 
 fn add_crease(
     alloc: Global,
-    pattern: &Pattern,
+    pattern: Pattern,
     kind: Kind,
     s: &Segment,
 ) -> Result<Pattern, StoreFault>
     requires { IsTrue (is_crease_kind kind) }
-    ensures { IsAnswer result (crease_added pattern.now kind s.now) }
+    ensures { IsAnswer result (crease_added pattern kind s.now) }
 {
     if !on_sheet(pattern.sheet(), s) {
         return Err(StoreFault::OutsideSheet);
@@ -205,53 +206,45 @@ fn add_crease(
     }
 }
 
-// The auxiliary lines with one more.
-fn lines_with(alloc: Global, pattern: &Pattern, s: &Segment) -> Result<Vec<Segment>, AllocError>
-    ensures { IfOk result (λ lines. lines.items ≡ with_in_order line_at pattern.now.aux s.now) }
-{
-    let mut lines = Vec::with_capacity(alloc, pattern.aux().len() + 1)?;
-    lines.extend_from_slice(pattern.aux())?;
-    place_line(&mut lines, s)?;
-    Ok(lines)
-}
-
-fn add_line(alloc: Global, pattern: &Pattern, s: &Segment) -> Result<Pattern, StoreFault>
-    ensures { IsAnswer result (line_added pattern.now s.now) }
+fn add_line(pattern: Pattern, s: &Segment) -> Result<Pattern, StoreFault>
+    ensures { IsAnswer result (line_added pattern s.now) }
 {
     if !on_sheet(pattern.sheet(), s) {
         return Err(StoreFault::OutsideSheet);
     }
-    let lines = lines_with(alloc, pattern, s)?;
-    let size = pattern.pieces().len() + lines.as_slice().len();
+    let (sheet, pieces, mut lines) = pattern.into_parts();
+    place_line(&mut lines, s)?;
+    let size = pieces.len() + lines.len();
     if size > MOST_PIECES {
         return Err(StoreFault::TooManyPieces {
             pieces: size as u32,
         });
     }
-    Ok(pattern.with_aux(lines)?)
+    Ok(Pattern::of(sheet, pieces, lines))
 }
 
-fn add_edge(pattern: &Pattern, s: &Segment) -> Result<Pattern, StoreFault>
-    ensures { IsAnswer result (edge_added pattern.now s.now) }
+fn add_edge(pattern: Pattern, s: &Segment) -> Result<Pattern, StoreFault>
+    ensures { IsAnswer result (edge_added pattern s.now) }
 {
-    if !pattern.sheet().on_border(s) {
-        return Err(StoreFault::EdgeOffBorder);
+    if pattern.sheet().on_border(s) {
+        Ok(pattern)
+    } else {
+        Err(StoreFault::EdgeOffBorder)
     }
-    Ok(pattern.copy()?)
 }
 
 fn add_segment(
     alloc: Global,
-    pattern: &Pattern,
+    pattern: Pattern,
     kind: Kind,
     s: &Segment,
 ) -> Result<Pattern, StoreFault>
-    ensures { IsAnswer result (segment_added pattern.now kind s.now) }
+    ensures { IsAnswer result (segment_added pattern kind s.now) }
 {
     match kind {
         Kind::Edge => add_edge(pattern, s),
         Kind::Mountain | Kind::Valley => add_crease(alloc, pattern, kind, s),
-        Kind::Aux => add_line(alloc, pattern, s),
+        Kind::Aux => add_line(pattern, s),
     }
 }
 
@@ -266,9 +259,25 @@ fn no_segment(from: &Point, to: &Point) -> StoreFault
     }
 }
 
-// The pattern with the segment between two points, if there is one.
+/// The pattern with the segment between two points, if there is one. What stays of it is moved, not copied.
 #[tactic(auto, unfolding(crate::specs::Adding::add_of))]
-fn add_between(
+pub fn add_between(
+    alloc: Global,
+    pattern: Pattern,
+    kind: Kind,
+    from: &Point,
+    to: &Point,
+) -> Result<Pattern, StoreFault>
+    ensures { IsAnswer result (add_of pattern kind from.now to.now) }
+{
+    match Segment::new(from, to) {
+        Ok(s) => add_segment(alloc, pattern, kind, &s),
+        Err(_) => Err(no_segment(from, to)),
+    }
+}
+
+// The same of a pattern that is lent.
+fn add_to_copy(
     alloc: Global,
     pattern: &Pattern,
     kind: Kind,
@@ -277,10 +286,7 @@ fn add_between(
 ) -> Result<Pattern, StoreFault>
     ensures { IsAnswer result (add_of pattern.now kind from.now to.now) }
 {
-    match Segment::new(from, to) {
-        Ok(s) => add_segment(alloc, pattern, kind, &s),
-        Err(_) => Err(no_segment(from, to)),
-    }
+    add_between(alloc, pattern.copy()?, kind, from, to)
 }
 
 /// The pattern with one more line: a crease, which cuts and is cut and takes the place of what it covers, or
@@ -312,5 +318,5 @@ pub fn add(
 {
     // tells the rules that the pattern keeps
     let _ = pattern.pieces();
-    add_between(alloc, pattern, kind, from, to)
+    add_to_copy(alloc, pattern, kind, from, to)
 }

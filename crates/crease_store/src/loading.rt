@@ -9,7 +9,7 @@ ghost use Rattle.crease_store.specs.Answer.{IsAnswer, refusal_of};
 ghost use Rattle.crease_store.specs.Loading.{load_of, load_from, after_line, IsLoadAnswer, IsLoaded};
 ghost use Rattle.crease_store.specs.Loading.{IsFirstRefused};
 
-use crate::adding::add;
+use crate::adding::add_between;
 use crate::faults::StoreFault;
 use crease_model::{Kind, Pattern};
 use plane_geometry::{Point, Segment};
@@ -59,45 +59,12 @@ fn fault_at(number: u32, fault: StoreFault) -> LoadStoreFault
     }
 }
 
-// Whether an auxiliary line is among ascending ones.
-fn holds_line(lines: &[Segment], s: &Segment) -> bool
-    ensures { IsTrue result → Contains lines.now s.now }
-{
-    lines.binary_search(s).is_ok()
-}
-
-// Whether there is a segment between two points, and it is an auxiliary line of the pattern.
-fn holds_between(pattern: &Pattern, from: &Point, to: &Point) -> bool
-    ensures { IsTrue result → HasSegment from.now to.now (λ s. Contains pattern.now.aux s) }
-{
-    match Segment::new(from, to) {
-        Ok(s) => holds_line(pattern.aux(), &s),
-        Err(_) => false,
-    }
-}
-
-// Whether the line is an auxiliary one that the pattern has already.
-fn is_there(pattern: &Pattern, line: &LoadLine) -> bool
-    ensures { IsTrue result → add_of pattern.now line.now.kind line.now.from line.now.to ≡ Ok pattern.now }
-{
-    // tells the rules that the pattern keeps
-    let _ = pattern.aux();
-    match line.kind {
-        Kind::Aux => holds_between(pattern, &line.from, &line.to),
-        Kind::Edge | Kind::Mountain | Kind::Valley => false,
-    }
-}
-
-// A pattern that has the line already is not copied.
 fn add_loaded(alloc: Global, pattern: Pattern, line: &LoadLine) -> Result<Pattern, LoadStoreFault>
     ensures { IsLoadAnswer result
         (after_line line.now.number (add_of pattern line.now.kind line.now.from line.now.to)
         (λ new. Ok new)) }
 {
-    if is_there(&pattern, line) {
-        return Ok(pattern);
-    }
-    match add(alloc, &pattern, line.kind, &line.from, &line.to) {
+    match add_between(alloc, pattern, line.kind, &line.from, &line.to) {
         Ok(new) => Ok(new),
         Err(fault) => Err(fault_at(line.number, fault)),
     }

@@ -9,8 +9,8 @@ returns c =
     let from = c.args.from.now in
     let to = c.args.to.now in
     let rules = c.pieces.ensures.rules in
-    let result = c.add_between.result in
-    let exact = c.add_between.ensures in
+    let result = c.add_to_copy.result in
+    let exact = c.add_to_copy.ensures in
     record {
       added = added_where old kind from to rules result exact;
       zero_length = refused_as old kind from to rules result exact ZeroLength;

@@ -1,6 +1,7 @@
 use Rattle.std.proofs.Common.{◌≡◌, ◌≤◌, not, List, length, sym, ap, ap₂, subst, ◌∙◌, arith, true}
 use Rattle.crease_model.specs.declared.Piece.{Piece}
 use Rattle.plane_geometry.specs.SegmentView.{stretch_of}
+use Rattle.crease_model.specs.View.{PatternView}
 use Rattle.crease_model.specs.Rules.{IsPattern, is_ascending, segments_of, size_of}
 use Rattle.line_split.specs.Cuts.{is_touched, untouched}
 use Rattle.line_split.specs.CutLaws.{cuts_ascend}
@@ -12,11 +13,11 @@ use Rattle.crease_store.proofs.Kept.{IsPattern-with_crease, pieces_with_few}
 use Rattle.crease_store.proofs.adding.add_cut.Goals as goal
 
 pub cut_parts-requires : goal.cut_parts-requires
-cut_parts-requires c = cuts_ascend c.args.s.now c.args.pattern.now.pieces c.args.cutting.now.points.items c.requires.cuts
+cut_parts-requires c = cuts_ascend c.args.s.now c.args.pattern.pieces c.args.cutting.now.points.items c.requires.cuts
 
 pub place_pieces-requires : goal.place_pieces-requires
 place_pieces-requires c =
-    let old = c.args.pattern.now.pieces in
+    let old = c.args.pattern.pieces in
     let s = c.args.s.now in
     let cuts = c.args.cutting.now.points.items in
     let others : c.as_slice.result.now ≡ untouched (stretch_of s) old = c.as_slice.ensures.value ∙ c.requires.others in
@@ -32,7 +33,7 @@ place_pieces-requires c =
 
 pub overflow_cast-result : goal.overflow_cast-result
 overflow_cast-result c =
-    let old = c.args.pattern.now in
+    let old = c.args.pattern in
     let s = c.args.s.now in
     let cuts = c.args.cutting.now.points.items in
     let few = pieces_with_few old c.args.kind s cuts c.requires.rules c.requires.cuts in
@@ -40,18 +41,20 @@ overflow_cast-result c =
     c.in_ok-pieces.ensures
     ∙ ap₂ (λ (os ns : List Piece). with_all_in_order segment_at os ns) (c.as_slice.ensures.value ∙ c.requires.others)
     (c.in_ok-parts.ensures ∙ ap (λ (ps : List Piece). new_parts ps c.args.kind s cuts) c.requires.touched) in
-    omega (arith, few, ap length (c.as_slice-2.ensures.value ∙ pieces), ap length c.aux.ensures.value, c.requires.rules.size)
+    omega (arith, few, c.len.ensures, c.len-2.ensures, ap length pieces, ap (λ (p : PatternView). length p.aux) c.into_parts-sheet.ensures.value, c.requires.rules.size)
 
-pub with_pieces-requires : goal.with_pieces-requires
-with_pieces-requires c =
-    let old = c.args.pattern.now in
+pub of-requires : goal.of-requires
+of-requires c =
+    let old = c.args.pattern in
     let s = c.args.s.now in
     let cuts = c.args.cutting.now.points.items in
+    let is_old = c.into_parts-sheet.ensures.value in
     let pieces : c.in_ok-pieces.pieces.items ≡ pieces_with old.pieces c.args.kind s cuts =
     c.in_ok-pieces.ensures
     ∙ ap₂ (λ (os ns : List Piece). with_all_in_order segment_at os ns) (c.as_slice.ensures.value ∙ c.requires.others)
     (c.in_ok-parts.ensures ∙ ap (λ (ps : List Piece). new_parts ps c.args.kind s cuts) c.requires.touched) in
     let size : size_of (with_crease old c.args.kind s cuts) ≤ 2000 =
-    omega (arith, c.if-size-gt-MOST_PIECES.false, ap length (c.as_slice-2.ensures.value ∙ pieces), ap length c.aux.ensures.value) in
-    subst (λ (ps : List Piece). IsPattern (record { corners = old.corners; pieces = ps; aux = old.aux })) (sym pieces)
-    (IsPattern-with_crease old c.args.kind s cuts c.requires.rules c.requires.sheet c.requires.kind c.requires.on_sheet c.requires.inside c.requires.cuts size)
+    omega (arith, c.if-size-gt-MOST_PIECES.false, c.len.ensures, c.len-2.ensures, ap length pieces, ap (λ (p : PatternView). length p.aux) is_old) in
+    subst (λ (p : PatternView). IsPattern (record { corners = p.corners; pieces = c.in_ok-pieces.pieces.items; aux = p.aux })) is_old
+    (subst (λ (ps : List Piece). IsPattern (record { corners = old.corners; pieces = ps; aux = old.aux })) (sym pieces)
+    (IsPattern-with_crease old c.args.kind s cuts c.requires.rules c.requires.sheet c.requires.kind c.requires.on_sheet c.requires.inside c.requires.cuts size))
