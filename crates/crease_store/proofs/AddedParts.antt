@@ -1,6 +1,6 @@
 -- The pieces once a crease is added are the parts of the new one, those parts of old ones that it does not cover, and the
 -- old ones that it does not touch.
-use Rattle.std.proofs.Common.{◌≡◌, Bool, true, false, not, ◌⊎◌, inl, inr, List, ◌++◌, refl, sym, ap, subst, ◌∙◌}
+use Rattle.std.proofs.Common.{◌≡◌, Bool, true, false, not, ◌⊎◌, inl, inr, List, refl, sym, ap, subst, ◌∙◌}
 use Rattle.std.specs.Prelude.{Contains, Ok}
 use Rattle.std.proofs.lemmas.Bool.{and_parts, and_from, or_cases, or_right, not-true, not_from_false, false_from_ne_true, both_ways}
 use Rattle.surd_number.specs.declared.Sgn.TheVariants.{Zero}

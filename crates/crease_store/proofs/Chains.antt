@@ -10,8 +10,6 @@ use Rattle.plane_geometry.specs.SideLaws.{order_of, order_self}
 use Rattle.plane_geometry.specs.StretchLaws.{zero_is, same_is, ends_order}
 use Rattle.plane_geometry.specs.SegmentLaws.{point_is}
 use Rattle.plane_geometry.specs.SegmentView.{stretch_of, lesser_end, greater_end, direction_number}
-use Rattle.crease_model.specs.declared.Kind.{Kind}
-use Rattle.crease_model.specs.declared.Kind.TheVariants.{Edge, Mountain, Valley, Aux}
 use Rattle.crease_model.specs.declared.Piece.{Piece}
 use Rattle.plane_geometry.specs.Order.{is_before}
 use Rattle.crease_model.specs.Kind.{is_same_kind}

@@ -1,6 +1,6 @@
 -- What taking away and another kind mean, proved.
 use Rattle.std.proofs.Common.{◌≡◌, Bool, true, false, cond, not, inl, inr, List, [], ◌∷◌, map, refl, sym, ap, ap₂, subst, ◌∙◌}
-use Rattle.std.specs.Prelude.{◌↔◌, Ok, Err, IfOk, IsErrOf, MatchResult}
+use Rattle.std.specs.Prelude.{◌↔◌, Contains, Ok, Err, IfOk, IsErrOf, MatchResult}
 use Rattle.std.specs.declared.result.Result.{Result}
 use Rattle.std.specs.Ordering.{is_lt}
 use Rattle.std.proofs.lemmas.Bool.{and_parts, and_from, true≢false, false_from_ne_true, not-true, not_from_false}
@@ -23,7 +23,8 @@ use Rattle.crease_store.specs.declared.faults.StoreFault.TheVariants as fault
 use Rattle.crease_store.specs.declared.faults.StoreRefusal.{StoreRefusal}
 use Rattle.crease_store.specs.declared.faults.StoreRefusal.TheVariants.{NoSuchPiece}
 use Rattle.crease_store.specs.Answer.{IsAnswer, HasMemory}
-use Rattle.crease_store.specs.Changed.{has_ends, is_piece_between, has_piece, has_line, without_piece, without_line, delete_of, in_kind, with_kind, set_of, HasEnds, HasPiece, HasLine, IsPieceTaken, IsLineTaken, IsDeleted, IsKindSet}
+use Rattle.crease_store.specs.InOrder.{segment_at, line_at}
+use Rattle.crease_store.specs.Changed.{has_ends, stands_between, without_piece, without_line, delete_of, in_kind, with_kind, set_of, HasEnds, HasPiece, HasLine, IsPieceTaken, IsLineTaken, IsDeleted, IsKindSet}
 use Rattle.line_split.specs.MemberLaws.{Member, member, contained, any_member, member_any, filter_member, member_filter}
 use Rattle.crease_store.proofs.Changes.{IsPattern-without_piece, IsPattern-without_line, same_segments, segment_stays}
 use Rattle.crease_store.proofs.Chains.{same_point, point_self}
@@ -65,25 +66,22 @@ kept_parts p q s e w = true≢false (sym (ends_from p q s w) ∙ not-true (has_e
 
 -- ---- what there is
 
-piece_there : (old : PatternView) (p q : Point) → has_piece old.pieces p q ≡ true → HasPiece old p q
-piece_there old p q e = let w = any_member (is_piece_between p q) old.pieces e in (w.0, contained old.pieces w.0 w.1, ends_parts p q (w.0).segment w.2)
+module _ {X : Type 0} (segment_at : X → Segment) (xs : List X) (p q : Point) where
+  one_there : stands_between segment_at xs p q ≡ true → (x : X) × Contains xs x × HasEnds p q (segment_at x)
+  one_there e =
+      let w = any_member (λ x. has_ends p q (segment_at x)) xs e in
+      (w.0, contained xs w.0 w.1, ends_parts p q (segment_at w.0) w.2)
 
-no_piece_there : (old : PatternView) (p q : Point) → has_piece old.pieces p q ≡ false → HasPiece old p q → ⊥
-no_piece_there old p q e w = true≢false (sym (member_any (is_piece_between p q) old.pieces w.0 (member old.pieces w.0 w.1) (ends_from p q (w.0).segment w.2)) ∙ e)
-
-line_there : (old : PatternView) (p q : Point) → has_line old.aux p q ≡ true → HasLine old p q
-line_there old p q e = let w = any_member (has_ends p q) old.aux e in (w.0, contained old.aux w.0 w.1, ends_parts p q w.0 w.2)
-
-no_line_there : (old : PatternView) (p q : Point) → has_line old.aux p q ≡ false → HasLine old p q → ⊥
-no_line_there old p q e w = true≢false (sym (member_any (has_ends p q) old.aux w.0 (member old.aux w.0 w.1) (ends_from p q w.0 w.2)) ∙ e)
+  none_there : stands_between segment_at xs p q ≡ false → (x : X) × Contains xs x × HasEnds p q (segment_at x) → ⊥
+  none_there e w = true≢false (sym (member_any (λ x. has_ends p q (segment_at x)) xs w.0 (member xs w.0 w.1) (ends_from p q (segment_at w.0) w.2)) ∙ e)
 
 -- ---- taking away
 
-piece_taken : (old : PatternView) (p q : Point) → IsPattern old → has_piece old.pieces p q ≡ true → IsPieceTaken old p q (without_piece old p q)
+piece_taken : (old : PatternView) (p q : Point) → IsPattern old → stands_between segment_at old.pieces p q ≡ true → IsPieceTaken old p q (without_piece old p q)
 piece_taken old p q rules e =
-    let keep : Piece → Bool = λ piece. not (is_piece_between p q piece) in
+    let keep : Piece → Bool = λ piece. not (has_ends p q piece.segment) in
     record {
-      there = piece_there old p q e;
+      there = one_there segment_at old.pieces p q e;
       corners = refl;
       aux = refl;
       order = (IsPattern-without_piece old p q rules).order.0;
@@ -93,12 +91,12 @@ piece_taken old p q rules e =
       );
     }
 
-line_taken : (old : PatternView) (p q : Point) → IsPattern old → has_piece old.pieces p q ≡ false → has_line old.aux p q ≡ true → IsLineTaken old p q (without_line old p q)
+line_taken : (old : PatternView) (p q : Point) → IsPattern old → stands_between segment_at old.pieces p q ≡ false → stands_between line_at old.aux p q ≡ true → IsLineTaken old p q (without_line old p q)
 line_taken old p q rules none e =
     let keep : Segment → Bool = λ s. not (has_ends p q s) in
     record {
-      no_piece = no_piece_there old p q none;
-      there = line_there old p q e;
+      no_piece = none_there segment_at old.pieces p q none;
+      there = one_there line_at old.aux p q e;
       corners = refl;
       pieces = refl;
       order = (IsPattern-without_line old p q rules).order.1;
@@ -110,47 +108,47 @@ line_taken old p q rules none e =
 
 delete_takes_away : (old : PatternView) (p q : Point) → IsPattern old → MatchResult (delete_of old p q) (λ new. IsDeleted old p q new) (λ e. (e ≡ NoSuchPiece) × (¬ HasPiece old p q) × (¬ HasLine old p q))
 unfolding delete_of
-delete_takes_away old p q rules = go (has_piece old.pieces p q) (has_line old.aux p q) refl refl
+delete_takes_away old p q rules = go (stands_between segment_at old.pieces p q) (stands_between line_at old.aux p q) refl refl
   where
-    go : (a b : Bool) → has_piece old.pieces p q ≡ a → has_line old.aux p q ≡ b → MatchResult (cond a (Ok (without_piece old p q)) (cond b (Ok (without_line old p q)) (Err NoSuchPiece))) (λ new. IsDeleted old p q new) (λ e. (e ≡ NoSuchPiece) × (¬ HasPiece old p q) × (¬ HasLine old p q))
+    go : (a b : Bool) → stands_between segment_at old.pieces p q ≡ a → stands_between line_at old.aux p q ≡ b → MatchResult (cond a (Ok (without_piece old p q)) (cond b (Ok (without_line old p q)) (Err NoSuchPiece))) (λ new. IsDeleted old p q new) (λ e. (e ≡ NoSuchPiece) × (¬ HasPiece old p q) × (¬ HasLine old p q))
     go true b e f = inl (piece_taken old p q rules e)
     go false true e f = inr (line_taken old p q rules e f)
-    go false false e f = (refl, no_piece_there old p q e, no_line_there old p q f)
+    go false false e f = (refl, none_there segment_at old.pieces p q e, none_there line_at old.aux p q f)
 
 -- ---- another kind
 
 module _ (kind : Kind) (p q : Point) where
-  turned_is : (z : Piece) → is_piece_between p q z ≡ true → (in_kind kind p q z).kind ≡ kind
+  turned_is : (z : Piece) → has_ends p q z.segment ≡ true → (in_kind kind p q z).kind ≡ kind
   turned_is z e = ap (λ b. (cond b (record z { kind = kind }) z).kind) e
 
-  stays_is : (z : Piece) → is_piece_between p q z ≡ false → in_kind kind p q z ≡ z
+  stays_is : (z : Piece) → has_ends p q z.segment ≡ false → in_kind kind p q z ≡ z
   stays_is z e = ap (λ b. cond b (record z { kind = kind }) z) e
 
-  not_there : (z : Piece) → (HasEnds p q z.segment → ⊥) → is_piece_between p q z ≡ false
+  not_there : (z : Piece) → (HasEnds p q z.segment → ⊥) → has_ends p q z.segment ≡ false
   not_there z none = false_from_ne_true (has_ends p q z.segment) (λ e. none (ends_parts p q z.segment e))
 
-  same_there : (z : Piece) → is_piece_between p q (in_kind kind p q z) ≡ is_piece_between p q z
+  same_there : (z : Piece) → has_ends p q (in_kind kind p q z).segment ≡ has_ends p q z.segment
   same_there z = ap (has_ends p q) (segment_stays kind p q z)
 
-  set_here : (ps : List Piece) (z : Piece) → Member (map (in_kind kind p q) ps) z → is_piece_between p q z ≡ true → z.kind ≡ kind
+  set_here : (ps : List Piece) (z : Piece) → Member (map (in_kind kind p q) ps) z → has_ends p q z.segment ≡ true → z.kind ≡ kind
   set_here [] z m e = absurd m
-  set_here (x ∷ xs) z (inl at) e = ap (λ (t : Piece). t.kind) (sym at) ∙ turned_is x (sym (same_there x) ∙ ap (is_piece_between p q) at ∙ e)
+  set_here (x ∷ xs) z (inl at) e = ap (λ (t : Piece). t.kind) (sym at) ∙ turned_is x (sym (same_there x) ∙ ap (λ (t : Piece). has_ends p q t.segment) at ∙ e)
   set_here (x ∷ xs) z (inr m) e = set_here xs z m e
 
-  others_to : (ps : List Piece) (z : Piece) → Member (map (in_kind kind p q) ps) z → is_piece_between p q z ≡ false → Member ps z
+  others_to : (ps : List Piece) (z : Piece) → Member (map (in_kind kind p q) ps) z → has_ends p q z.segment ≡ false → Member ps z
   others_to [] z m e = absurd m
-  others_to (x ∷ xs) z (inl at) e = inl (sym (stays_is x (sym (same_there x) ∙ ap (is_piece_between p q) at ∙ e)) ∙ at)
+  others_to (x ∷ xs) z (inl at) e = inl (sym (stays_is x (sym (same_there x) ∙ ap (λ (t : Piece). has_ends p q t.segment) at ∙ e)) ∙ at)
   others_to (x ∷ xs) z (inr m) e = inr (others_to xs z m e)
 
-  others_from : (ps : List Piece) (z : Piece) → Member ps z → is_piece_between p q z ≡ false → Member (map (in_kind kind p q) ps) z
+  others_from : (ps : List Piece) (z : Piece) → Member ps z → has_ends p q z.segment ≡ false → Member (map (in_kind kind p q) ps) z
   others_from [] z m e = absurd m
-  others_from (x ∷ xs) z (inl at) e = inl (stays_is x (ap (is_piece_between p q) at ∙ e) ∙ at)
+  others_from (x ∷ xs) z (inl at) e = inl (stays_is x (ap (λ (t : Piece). has_ends p q t.segment) at ∙ e) ∙ at)
   others_from (x ∷ xs) z (inr m) e = inr (others_from xs z m e)
 
-  kind_set : (old : PatternView) → has_piece old.pieces p q ≡ true → IsKindSet old kind p q (with_kind old kind p q)
+  kind_set : (old : PatternView) → stands_between segment_at old.pieces p q ≡ true → IsKindSet old kind p q (with_kind old kind p q)
   kind_set old e =
       record {
-        there = piece_there old p q e;
+        there = one_there segment_at old.pieces p q e;
         corners = refl;
         aux = refl;
         segments = same_segments (in_kind kind p q) (segment_stays kind p q) old.pieces;
@@ -163,11 +161,11 @@ module _ (kind : Kind) (p q : Point) where
 
 set_turns_one : (old : PatternView) (kind : Kind) (p q : Point) → MatchResult (set_of old kind p q) (λ new. IsKindSet old kind p q new) (λ e. (e ≡ NoSuchPiece) × (¬ HasPiece old p q))
 unfolding set_of
-set_turns_one old kind p q = go (has_piece old.pieces p q) refl
+set_turns_one old kind p q = go (stands_between segment_at old.pieces p q) refl
   where
-    go : (b : Bool) → has_piece old.pieces p q ≡ b → MatchResult (cond b (Ok (with_kind old kind p q)) (Err NoSuchPiece)) (λ new. IsKindSet old kind p q new) (λ e. (e ≡ NoSuchPiece) × (¬ HasPiece old p q))
+    go : (b : Bool) → stands_between segment_at old.pieces p q ≡ b → MatchResult (cond b (Ok (with_kind old kind p q)) (Err NoSuchPiece)) (λ new. IsKindSet old kind p q new) (λ e. (e ≡ NoSuchPiece) × (¬ HasPiece old p q))
     go true e = kind_set kind p q old e
-    go false e = (refl, no_piece_there old p q e)
+    go false e = (refl, none_there segment_at old.pieces p q e)
 
 -- ---- answers
 

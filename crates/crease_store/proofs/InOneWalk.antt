@@ -1,12 +1,12 @@
 -- Pieces put into their places in one walk.
-use Rattle.std.proofs.Common.{◌≡◌, ◌+◌, ◌<◌, Bool, true, false, not, ◌&&◌, ◌⊎◌, inl, inr, ℕ, zero, suc, List, [], ◌∷◌, ◌++◌, length, map, get_or, refl, sym, ap, subst, ◌∙◌, arith}
+use Rattle.std.proofs.Common.{◌≡◌, ◌+◌, true, false, not, ◌⊎◌, inl, inr, suc, List, [], ◌∷◌, ◌++◌, get_or, refl, sym, ap, subst, ◌∙◌, arith}
 use denote.Param.Members.{Mut}
 use denote.Ref.{Bor}
 use Rattle.std.specs.Prelude.{Contains, IfOk, Ok, Err}
 use Rattle.std.specs.declared.result.Result.{Result}
 use Rattle.std.specs.Fn.{Called, ComputesKey}
 use Rattle.std.specs.Ordering.{is_lt, is_eq}
-use Rattle.std.specs.List.Sorted.{IsPermutation, IsSortedBy, IsSortedByKey}
+use Rattle.std.specs.List.Sorted.{IsPermutation, IsSortedBy}
 use Rattle.std.specs.declared.cmp.Ordering.{Ordering}
 use Rattle.std.specs.declared.cmp.Ordering.TheVariants.{Less, Equal, Greater}
 use Rattle.std.proofs.lemmas.Bool.{and_parts, and_from, false≢true, not-true, not_from_false}
@@ -18,7 +18,7 @@ use Rattle.plane_geometry.specs.OrderLaws.{before_trans, before_turned, tied_seg
 use Rattle.crease_model.specs.declared.Piece.{Piece}
 use Rattle.crease_model.specs.Rules.{is_ascending, segments_of}
 use Rattle.line_split.specs.MemberLaws.{Member, member, contained}
-use Rattle.crease_store.specs.InOrder.{segment_at, with_in_order, with_all_in_order, begins_on, never_descends, HaveOneOnEach, IsPutBetween}
+use Rattle.crease_store.specs.InOrder.{segment_at, with_all_in_order, begins_on, never_descends, HaveOneOnEach, IsPutBetween}
 use Rattle.crease_store.proofs.Ascending.{one_ascending}
 use Rattle.crease_store.proofs.InOrderLaws.{placed_ascends, placed_all_ascends, placed_all_either, placed_all_has, placed_twice, put_between, left_ascends}
 

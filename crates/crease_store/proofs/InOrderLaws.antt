@@ -1,5 +1,5 @@
 -- Lists in the order of segments with more put in their places: they ascend, and what is in them.
-use Rattle.std.proofs.Common.{◌≡◌, ◌+◌, ◌≤◌, true, ◌⊎◌, inl, inr, List, [], ◌∷◌, length, map, refl, sym, ap, ap₂, subst, ◌∙◌, arith, ℕ, zero, suc, false, ◌++◌, take, drop, get_or, ◌<◌}
+use Rattle.std.proofs.Common.{◌≡◌, ◌+◌, ◌≤◌, true, ◌⊎◌, inl, inr, List, [], ◌∷◌, length, map, refl, sym, ap, subst, ◌∙◌, arith, ℕ, zero, suc, false, ◌++◌, take, drop, get_or, ◌<◌}
 use Rattle.std.specs.Ordering.{is_lt, is_eq, ordering_reverse}
 use Rattle.std.specs.List.Sorted.{IsPartitionedBy, IsPartitionPoint}
 use Rattle.std.proofs.lemmas.Cmp.{tied_itself}

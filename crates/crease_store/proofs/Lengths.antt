@@ -1,18 +1,17 @@
 -- How many pieces are put in order where a crease is added: their count fits 32 bits.
 use Rattle.std.proofs.Common.{◌≡◌, ℕ, ◌+◌, ◌*◌, ◌^◌, ◌<◌, ◌≤◌, Bool, true, false, not, cond, List, [], ◌∷◌, length, length-append, refl, ap, arith}
 use Rattle.std.specs.Prelude.{Option, None, Some, Ok}
-use Rattle.std.specs.List.{filter, flat_map}
-use Rattle.std.specs.declared.cmp.Ordering.TheVariants.{Less, Equal, Greater}
+use Rattle.std.specs.List.{filter}
 use Rattle.plane_geometry.specs.declared.Point.{Point}
 use Rattle.plane_geometry.specs.declared.Segment.{Segment}
-use Rattle.plane_geometry.specs.Position.{position_of, compare_positions}
+use Rattle.plane_geometry.specs.Position.{position_of}
 use Rattle.plane_geometry.specs.SegmentOf.{segment_of}
 use Rattle.plane_geometry.specs.SegmentView.{stretch_of, lesser_end, greater_end}
 use Rattle.plane_geometry.specs.Stretch.{Stretch, is_between, is_on}
 use Rattle.plane_geometry.specs.Common.{common_of}
 use Rattle.crease_model.specs.declared.Kind.{Kind}
 use Rattle.crease_model.specs.declared.Piece.{Piece}
-use Rattle.line_split.specs.Points.{by_order, with_point}
+use Rattle.line_split.specs.Points.{with_point}
 use Rattle.line_split.specs.Cuts.{with_point_on, with_ends, is_meeting, with_common, with_meeting, with_piece_cuts, points_or, cuts_from, cuts_of, is_touched, untouched, touched}
 use Rattle.line_split.specs.LengthLaws.{with_point_length, flat_map_length}
 use Rattle.line_split.specs.Parts.{inner_points, piece_on, pieces_between, parts_of}

@@ -1,7 +1,7 @@
 -- What is added keeps the rules of a pattern, so lines that are loaded are added one after another.
-use Rattle.std.proofs.Common.{◌≡◌, ℕ, ◌≤◌, Bool, true, false, cond, not, nat_le, List, [], ◌∷◌, ◌++◌, refl, sym, ap, subst, ◌∙◌, arith}
+use Rattle.std.proofs.Common.{◌≡◌, ℕ, ◌≤◌, Bool, true, false, cond, not, nat_le, List, [], ◌∷◌, refl, sym, ap, subst, ◌∙◌, arith}
 use Rattle.std.proofs.Common.{leb-true}
-use Rattle.std.specs.Prelude.{⊤, Option, None, Some, Ok, Err, IfOk, IfErr, IfSome, IsTrue}
+use Rattle.std.specs.Prelude.{Option, None, Some, Ok, Err, IfOk, IfErr, IfSome}
 use Rattle.std.specs.declared.result.Result.{Result}
 use Rattle.plane_geometry.specs.declared.Point.{Point}
 use Rattle.plane_geometry.specs.declared.Segment.{Segment}
@@ -17,8 +17,7 @@ use Rattle.crease_store.specs.declared.faults.StoreRefusal.{StoreRefusal}
 use Rattle.crease_store.specs.declared.faults.StoreRefusal.TheVariants.{EdgeOffBorder, OutsideSheet, OnBorder, TooManyPieces}
 use Rattle.crease_store.specs.declared.loading.LoadLine.{LoadLine}
 use Rattle.crease_store.specs.declared.loading.LoadStoreFault.{LoadStoreFault}
-use Rattle.crease_store.specs.Added.{IsAddedBetween}
-use Rattle.crease_store.specs.Adding.{with_crease, with_line, if_it_fits, crease_cut, crease_added, line_added, edge_added, segment_added, segment_refusal, added_between, add_of}
+use Rattle.crease_store.specs.Adding.{with_crease, with_line, if_it_fits, crease_cut, crease_added, line_added, edge_added, segment_refusal, added_between, add_of}
 use Rattle.crease_store.specs.AddRefusals.{IsRefusedFor}
 use Rattle.crease_store.specs.Answer.{refusal_of}
 use Rattle.crease_store.specs.Loading.{LoadRefusal, refused_line, after_line, load_from, load_of, IsLoadRefusal, IsLoadAnswer, IsLoaded, IsFirstRefused}

@@ -1,5 +1,5 @@
 -- What is in lists that are put together, and in lists of pieces that meet at ends alone.
-use Rattle.std.proofs.Common.{◌≡◌, ◌⊎◌, inl, inr, List, [], ◌∷◌, ◌++◌, refl, sym, subst, ◌∙◌}
+use Rattle.std.proofs.Common.{◌≡◌, ◌⊎◌, inl, inr, List, [], ◌∷◌, refl, sym, subst, ◌∙◌}
 use Rattle.std.specs.List.{flat_map}
 use Rattle.plane_geometry.specs.Stretch.{MeetAtEnds}
 use Rattle.plane_geometry.specs.SegmentView.{stretch_of}

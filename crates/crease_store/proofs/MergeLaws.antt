@@ -14,8 +14,6 @@ use Rattle.plane_geometry.specs.Stretch.{is_end}
 use Rattle.plane_geometry.specs.SegmentView.{stretch_of, lesser_end, greater_end, direction_number}
 use Rattle.plane_geometry.specs.SideLaws.{order_of, order_self, lex_sign, square_sign, along_lex}
 use Rattle.plane_geometry.specs.StretchLaws.{ends_order, to_in_line, along_sign, end_from, end_to, same_is}
-use Rattle.crease_model.specs.declared.Kind.{Kind}
-use Rattle.crease_model.specs.declared.Kind.TheVariants.{Edge, Mountain, Valley, Aux}
 use Rattle.crease_model.specs.declared.Piece.{Piece}
 use Rattle.crease_model.specs.Rules.{IsPattern, is_ascending, segments_of}
 use Rattle.crease_model.specs.View.{PatternView}

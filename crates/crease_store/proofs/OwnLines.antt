@@ -1,28 +1,20 @@
 -- The lines of a pattern load as that pattern: the edges change nothing, and each piece and each auxiliary line goes behind
 -- those before it.
-use Rattle.std.proofs.Common.{◌≡◌, ℕ, ◌<◌, ◌≤◌, Bool, true, false, not, ◌&&◌, cond, ◌⊎◌, inl, inr, List, [], ◌∷◌, ◌++◌, map, append_assoc, length-append, refl, sym, ap, subst, ◌∙◌, arith}
-use Rattle.std.specs.Prelude.{Contains, Some, Ok, Err, IsTrue, is_some, unwrap_or}
+use Rattle.std.proofs.Common.{◌≡◌, ℕ, ◌≤◌, true, false, not, ◌&&◌, cond, ◌⊎◌, inl, inr, List, [], ◌∷◌, ◌++◌, map, append_assoc, length-append, refl, sym, ap, subst, ◌∙◌, arith}
+use Rattle.std.specs.Prelude.{Contains, Ok, Err, IsTrue, is_some, unwrap_or}
 use Rattle.std.specs.List.{list_all}
-use Rattle.std.specs.Ordering.{is_lt}
 use Rattle.std.specs.declared.result.Result.{Result}
 use Rattle.std.proofs.lemmas.Bool.{and_parts, and_from, le-leb, not-true}
 use Rattle.std.proofs.lemmas.List.{append-nil}
-use Rattle.surd_number.specs.declared.Sgn.{Sgn}
-use Rattle.surd_number.specs.declared.Sgn.TheVariants.{Neg, Zero, Pos}
-use Rattle.surd_number.specs.SignLaws.{opposite_sign}
 use Rattle.plane_geometry.specs.declared.Point.{Point}
 use Rattle.plane_geometry.specs.declared.Segment.{Segment}
-use Rattle.plane_geometry.specs.Position.{position_of, compare_positions}
-use Rattle.plane_geometry.specs.Direction.{is_positive, is_along}
-use Rattle.plane_geometry.specs.DirectionLaws.{opposite_number, along_unique, along_back}
-use Rattle.plane_geometry.specs.SegmentOf.{segment_from, segment_of}
+use Rattle.plane_geometry.specs.Position.{position_of}
+use Rattle.plane_geometry.specs.SegmentOf.{segment_of}
 use Rattle.plane_geometry.specs.SegmentView.{stretch_of, lesser_end, greater_end}
-use Rattle.plane_geometry.specs.SegmentLaws.{point_is, segment_of-ends}
-use Rattle.plane_geometry.specs.SideLaws.{order_of, order_turned}
-use Rattle.plane_geometry.specs.StretchLaws.{before_is, from_end, to_end}
+use Rattle.plane_geometry.specs.SegmentLaws.{segment_of-ends}
+use Rattle.plane_geometry.specs.StretchLaws.{from_end, to_end}
 use Rattle.plane_geometry.specs.Stretch.{MeetAtEnds}
-use Rattle.crease_model.specs.declared.Kind.{Kind}
-use Rattle.crease_model.specs.declared.Kind.TheVariants.{Edge, Mountain, Valley, Aux}
+use Rattle.crease_model.specs.declared.Kind.TheVariants.{Edge, Aux}
 use Rattle.crease_model.specs.declared.Piece.{Piece}
 use Rattle.crease_model.specs.PartLaws.{direction_is_along, sheet_turns}
 use Rattle.plane_geometry.specs.Polygon.{Side, sides_of, side_direction}
@@ -37,7 +29,7 @@ use Rattle.crease_store.specs.declared.faults.StoreRefusal.{StoreRefusal}
 use Rattle.crease_store.specs.declared.faults.StoreRefusal.TheVariants.{EdgeOffBorder, OutsideSheet, OnBorder, TooManyPieces}
 use Rattle.crease_store.specs.declared.loading.LoadLine.{LoadLine}
 use Rattle.crease_store.specs.Added.{IsCreaseAdded, IsLineAdded}
-use Rattle.crease_store.specs.Adding.{with_crease, with_line, if_it_fits, crease_cut, crease_added, segment_added, added_between, add_of}
+use Rattle.crease_store.specs.Adding.{with_crease, with_line, if_it_fits, crease_cut, crease_added, added_between, add_of}
 use Rattle.crease_store.specs.Loading.{after_line, load_from, load_of}
 use Rattle.crease_store.specs.InOrder.{segment_at, line_at}
 use Rattle.crease_model.specs.OwnLines.{PlainLine, side_line, piece_line, auxiliary_line, own_lines}

@@ -1,9 +1,9 @@
 -- A line is refused exactly for the causes of its refusals.
-use Rattle.std.proofs.Common.{◌≡◌, ◌≢◌, ◌↔◌, ℕ, ◌<◌, ◌≤◌, Bool, true, false, cond, not, ◌&&◌, nat_le, inl, inr, List, refl, sym, ap, subst, ◌∙◌, arith}
-use Rattle.std.specs.Prelude.{Option, None, Some, Ok, Err, IfOk, IsOk, IsErrOf, IsTrue}
+use Rattle.std.proofs.Common.{◌≡◌, ◌≢◌, ◌↔◌, ℕ, ◌<◌, Bool, true, false, cond, not, ◌&&◌, nat_le, inl, inr, List, refl, sym, ap, subst, ◌∙◌, arith}
+use Rattle.std.specs.Prelude.{Option, None, Some, Ok, Err, IfOk, IsOk, IsErrOf}
 use Rattle.std.specs.Ordering.{is_lt}
 use Rattle.std.specs.declared.result.Result.{Result}
-use Rattle.std.proofs.lemmas.Bool.{and_parts, and_from, false≢true, true≢false, false_from_ne_true, le-leb, not_from_false, not-true}
+use Rattle.std.proofs.lemmas.Bool.{and_parts, and_from, false≢true, false_from_ne_true, not_from_false, not-true}
 use Rattle.std.proofs.Common.{leb-true, leb-false}
 use Rattle.surd_number.specs.declared.Sgn.{Sgn}
 use Rattle.surd_number.specs.declared.Sgn.TheVariants.{Neg, Zero, Pos}
@@ -15,15 +15,13 @@ use Rattle.plane_geometry.specs.Direction.{is_positive, is_along}
 use Rattle.plane_geometry.specs.DirectionLaws.{opposite_number, along_unique, along_back}
 use Rattle.plane_geometry.specs.Ends.{HasNoDirection}
 use Rattle.plane_geometry.specs.SegmentOf.{segment_from, segment_of}
-use Rattle.plane_geometry.specs.Stretch.{Stretch}
 use Rattle.plane_geometry.specs.SegmentView.{stretch_of}
 use Rattle.plane_geometry.specs.SegmentLaws.{point_is, segment_of-ends, no_direction_back}
 use Rattle.plane_geometry.specs.SideLaws.{order_of, order_self, order_turned}
 use Rattle.plane_geometry.specs.StretchLaws.{before_is}
 use Rattle.crease_model.specs.declared.Kind.{Kind}
 use Rattle.crease_model.specs.declared.Kind.TheVariants.{Edge, Mountain, Valley, Aux}
-use Rattle.crease_model.specs.declared.Piece.{Piece}
-use Rattle.crease_model.specs.PartLaws.{EndsAt, in_order, turned, segment_ends}
+use Rattle.crease_model.specs.PartLaws.{in_order, turned, segment_ends}
 use Rattle.crease_model.specs.Sheet.{is_within_side}
 use Rattle.crease_model.specs.View.{PatternView}
 use Rattle.crease_model.specs.Rules.{IsPattern, is_crease, is_crease_kind, is_on_sheet, most_pieces, size_of}
@@ -36,7 +34,7 @@ use Rattle.crease_store.specs.declared.faults.StoreRefusal.TheVariants.{ZeroLeng
 use Rattle.crease_store.specs.Answer.{refusal_of, IsRefusal, IsAnswer, HasMemory}
 use Rattle.crease_store.specs.Added.{IsCreaseAdded, IsAdded, IsAddedBetween}
 use Rattle.crease_store.specs.Adding.{with_crease, with_line, if_it_fits, crease_cut, crease_added, line_added, edge_added, segment_added, segment_refusal, added_between, add_of}
-use Rattle.crease_store.specs.AddRefusals.{HasSegment, IsStorable, GivesTooMany, IsRefusedFor}
+use Rattle.crease_store.specs.AddRefusals.{IsStorable, GivesTooMany, IsRefusedFor}
 use Rattle.crease_store.proofs.AddLaws.{crease_is_added, line_is_added, accepted_is_added, added_is_one}
 use Rattle.crease_store.proofs.Chains.{same_point, point_self}
 

@@ -1,5 +1,5 @@
 -- Adding a line to a pattern: what is cut, what the new line takes the place of, and when it is refused.
-use Rattle.std.specs.Prelude.{ℕ, Bool, not, List, ◌++◌, Option, None, Some, nat_le, if◌then◌else◌, Ok, Err}
+use Rattle.std.specs.Prelude.{ℕ, not, List, ◌++◌, Option, None, Some, nat_le, if◌then◌else◌, Ok, Err}
 use Rattle.std.specs.List.{filter, flat_map}
 use Rattle.std.specs.declared.result.Result.{Result}
 use Rattle.plane_geometry.specs.declared.Point.{Point}

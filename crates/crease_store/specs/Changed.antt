@@ -14,6 +14,7 @@ use Rattle.crease_model.specs.Rules.{is_ascending, segments_of}
 use Rattle.crease_model.specs.View.{PatternView, empty_on}
 use Rattle.crease_store.specs.declared.faults.StoreRefusal.{StoreRefusal}
 use Rattle.crease_store.specs.declared.faults.StoreRefusal.TheVariants.{NoSuchPiece}
+use Rattle.crease_store.specs.InOrder.{segment_at, line_at}
 
 -- p and q are its ends, in either order
 abbrev pub has_ends : Point → Point → Segment → Bool
@@ -21,31 +22,29 @@ has_ends p q s =
     is_same_position (position_of (lesser_end s)) (position_of (lesser_of p q))
     && is_same_position (position_of (greater_end s)) (position_of (greater_of p q))
 
-abbrev pub is_piece_between : Point → Point → Piece → Bool
-is_piece_between p q piece = has_ends p q piece.segment
+-- one of these has p and q as its ends
+abbrev pub stands_between : {X : Type 0} → (X → Segment) → List X → Point → Point → Bool
+stands_between segment_at xs p q = list_any (λ x. has_ends p q (segment_at x)) xs
 
-abbrev pub has_piece : List Piece → Point → Point → Bool
-has_piece pieces p q = list_any (is_piece_between p q) pieces
-
-abbrev pub has_line : List Segment → Point → Point → Bool
-has_line lines p q = list_any (has_ends p q) lines
+-- those that have other ends
+abbrev pub without : {X : Type 0} → (X → Segment) → List X → Point → Point → List X
+without segment_at xs p q = filter (λ x. not (has_ends p q (segment_at x))) xs
 
 abbrev pub without_piece : PatternView → Point → Point → PatternView
-without_piece pattern p q =
-    record pattern { pieces = filter (λ piece. not (is_piece_between p q piece)) pattern.pieces }
+without_piece pattern p q = record pattern { pieces = without segment_at pattern.pieces p q }
 
 abbrev pub without_line : PatternView → Point → Point → PatternView
-without_line pattern p q = record pattern { aux = filter (λ s. not (has_ends p q s)) pattern.aux }
+without_line pattern p q = record pattern { aux = without line_at pattern.aux p q }
 
 -- without the piece between p and q, else without the auxiliary line between them
 unfoldable pub delete_of : PatternView → Point → Point → Result PatternView StoreRefusal
 delete_of pattern p q =
-    if has_piece pattern.pieces p q then Ok (without_piece pattern p q)
-    else if has_line pattern.aux p q then Ok (without_line pattern p q)
+    if stands_between segment_at pattern.pieces p q then Ok (without_piece pattern p q)
+    else if stands_between line_at pattern.aux p q then Ok (without_line pattern p q)
     else Err NoSuchPiece
 
 abbrev pub in_kind : Kind → Point → Point → Piece → Piece
-in_kind kind p q piece = if is_piece_between p q piece then record piece { kind = kind } else piece
+in_kind kind p q piece = if has_ends p q piece.segment then record piece { kind = kind } else piece
 
 abbrev pub with_kind : PatternView → Kind → Point → Point → PatternView
 with_kind pattern kind p q = record pattern { pieces = map (in_kind kind p q) pattern.pieces }
@@ -53,7 +52,7 @@ with_kind pattern kind p q = record pattern { pieces = map (in_kind kind p q) pa
 -- with the piece between p and q in this kind
 unfoldable pub set_of : PatternView → Kind → Point → Point → Result PatternView StoreRefusal
 set_of pattern kind p q =
-    if has_piece pattern.pieces p q then Ok (with_kind pattern kind p q) else Err NoSuchPiece
+    if stands_between segment_at pattern.pieces p q then Ok (with_kind pattern kind p q) else Err NoSuchPiece
 
 -- the same sheet with nothing on it
 abbrev pub clear_of : PatternView → PatternView

@@ -1,6 +1,6 @@
 -- Merging: pieces of one direction and kind that are joined at vertices where nothing else ends become one
 -- piece.
-use Rattle.std.specs.Prelude.{◌≡◌, ◌≢◌, ◌⊎◌, ◌↔◌, ⊤, Contains, IsTrue, IsFalse, ℕ, zero, suc, Bool, true}
+use Rattle.std.specs.Prelude.{◌≡◌, ◌≢◌, ◌⊎◌, ◌↔◌, ⊤, Contains, IsTrue, IsFalse, ℕ, zero, suc, Bool}
 use Rattle.std.specs.Prelude.{false, ◌&&◌, nat_eq, List, [], ◌∷◌, length, filter, Option, None, Some}
 use Rattle.std.specs.Prelude.{unwrap_or, if◌then◌else◌}
 use Rattle.plane_geometry.specs.declared.Point.{Point}

@@ -23,7 +23,7 @@ ghost use Rattle.crease_store.specs.AddRefusals.{IsRefusedFor};
 ghost use Rattle.crease_store.specs.Answer.{IsAnswer, HasMemory, refusal_of};
 
 use crate::faults::StoreFault;
-use crate::placing::{place_line, place_pieces};
+use crate::placing::{place, place_pieces};
 use crease_model::{Kind, MOST_PIECES, Pattern, Piece, Place, Sheet};
 use line_split::{Cutting, SplitFault, cut_at, cut_points};
 use plane_geometry::{Point, Segment, on_segment};
@@ -213,7 +213,7 @@ fn add_line(pattern: Pattern, s: &Segment) -> Result<Pattern, StoreFault>
         return Err(StoreFault::OutsideSheet);
     }
     let (sheet, pieces, mut lines) = pattern.into_parts();
-    place_line(&mut lines, s)?;
+    place(&mut lines, s)?;
     let size = pieces.len() + lines.len();
     if size > MOST_PIECES {
         return Err(StoreFault::TooManyPieces {

@@ -1,14 +1,15 @@
 //! Taking a piece away, giving it another kind, and clearing.
 
-ghost use Rattle.std.specs.Prelude.{◌≡◌, ◌↔◌, [], Ok, Err, IfOk, IsErrOf, IsTrue, not, map, filter};
+ghost use Rattle.std.specs.Prelude.{◌≡◌, ◌↔◌, [], Ok, Err, IfOk, IsErrOf, IsTrue, map};
 ghost use Rattle.plane_geometry.specs.Ends.{lesser_of, greater_of};
 ghost use Rattle.crease_model.specs.Rules.{is_crease_kind};
-ghost use Rattle.crease_store.specs.Changed.{has_ends, is_piece_between, has_piece, has_line, without_piece};
+ghost use Rattle.crease_store.specs.Changed.{has_ends, stands_between, without, without_piece};
 ghost use Rattle.crease_store.specs.Changed.{without_line, delete_of, in_kind, with_kind, set_of, clear_of};
 ghost use Rattle.crease_store.specs.Changed.{HasPiece, HasLine, IsDeleted, IsKindSet};
 ghost use Rattle.crease_store.specs.Answer.{IsAnswer, HasMemory};
 
 use crate::faults::StoreFault;
+use crate::on_segment::OnSegment;
 use crease_model::{Kind, Pattern, Piece};
 use plane_geometry::{Point, Segment};
 use std::alloc::{AllocError, Global};
@@ -32,58 +33,31 @@ fn has_ends(from: &Point, to: &Point, s: &Segment) -> bool
     s.from().cmp(lesser(from, to)).is_eq() && s.to().cmp(greater(from, to)).is_eq()
 }
 
-fn has_piece(pieces: &[Piece], from: &Point, to: &Point) -> bool
-    ensures { result ≡ has_piece pieces.now from.now to.now }
+// Whether one of these has the two points as its ends.
+fn stands_between<T: OnSegment>(items: &[T], from: &Point, to: &Point) -> bool
+    ensures { result ≡ stands_between T.segment_of items.now from.now to.now }
 {
-    for piece in pieces {
-        if has_ends(from, to, &piece.segment) {
+    for item in items {
+        if has_ends(from, to, item.segment()) {
             return true;
         }
     }
     false
 }
 
-fn has_line(lines: &[Segment], from: &Point, to: &Point) -> bool
-    ensures { result ≡ has_line lines.now from.now to.now }
-{
-    for line in lines {
-        if has_ends(from, to, line) {
-            return true;
-        }
-    }
-    false
-}
-
-fn pieces_without(
+// Those that have other ends.
+fn without<T: OnSegment>(
     alloc: Global,
-    pieces: &[Piece],
+    items: &[T],
     from: &Point,
     to: &Point,
-) -> Result<Vec<Piece>, AllocError>
-    ensures { IfOk result (λ rest. rest.items
-        ≡ filter (λ piece. not (is_piece_between from.now to.now piece)) pieces.now) }
+) -> Result<Vec<T>, AllocError>
+    ensures { IfOk result (λ rest. rest.items ≡ without T.segment_of items.now from.now to.now) }
 {
-    let mut rest = Vec::with_capacity(alloc, pieces.len())?;
-    for piece in pieces {
-        if !has_ends(from, to, &piece.segment) {
-            rest.push(*piece)?;
-        }
-    }
-    Ok(rest)
-}
-
-fn lines_without(
-    alloc: Global,
-    lines: &[Segment],
-    from: &Point,
-    to: &Point,
-) -> Result<Vec<Segment>, AllocError>
-    ensures { IfOk result (λ rest. rest.items ≡ filter (λ s. not (has_ends from.now to.now s)) lines.now) }
-{
-    let mut rest = Vec::with_capacity(alloc, lines.len())?;
-    for line in lines {
-        if !has_ends(from, to, line) {
-            rest.push(*line)?;
+    let mut rest = Vec::with_capacity(alloc, items.len())?;
+    for item in items {
+        if !has_ends(from, to, item.segment()) {
+            rest.push(*item)?;
         }
     }
     Ok(rest)
@@ -127,7 +101,7 @@ fn delete_piece(
 ) -> Result<Pattern, AllocError>
     ensures { IfOk result (λ new. new ≡ without_piece pattern.now from.now to.now) }
 {
-    pattern.with_pieces(pieces_without(alloc, pattern.pieces(), from, to)?)
+    pattern.with_pieces(without(alloc, pattern.pieces(), from, to)?)
 }
 
 fn delete_line(
@@ -138,7 +112,7 @@ fn delete_line(
 ) -> Result<Pattern, AllocError>
     ensures { IfOk result (λ new. new ≡ without_line pattern.now from.now to.now) }
 {
-    pattern.with_aux(lines_without(alloc, pattern.aux(), from, to)?)
+    pattern.with_aux(without(alloc, pattern.aux(), from, to)?)
 }
 
 fn set_piece(
@@ -164,9 +138,9 @@ fn delete_between(
 ) -> Result<Pattern, StoreFault>
     ensures { IsAnswer result (delete_of pattern.now from.now to.now) }
 {
-    if has_piece(pattern.pieces(), from, to) {
+    if stands_between(pattern.pieces(), from, to) {
         Ok(delete_piece(alloc, pattern, from, to)?)
-    } else if has_line(pattern.aux(), from, to) {
+    } else if stands_between(pattern.aux(), from, to) {
         Ok(delete_line(alloc, pattern, from, to)?)
     } else {
         Err(StoreFault::NoSuchPiece)
@@ -204,7 +178,7 @@ fn set_between(
     requires { IsTrue (is_crease_kind kind) }
     ensures { IsAnswer result (set_of pattern.now kind from.now to.now) }
 {
-    if has_piece(pattern.pieces(), from, to) {
+    if stands_between(pattern.pieces(), from, to) {
         Ok(set_piece(alloc, pattern, kind, from, to)?)
     } else {
         Err(StoreFault::NoSuchPiece)

@@ -8,6 +8,7 @@ mod laws;
 mod loading;
 mod merging;
 mod merging_laws;
+mod on_segment;
 mod placing;
 
 pub use adding::add;

@@ -14,7 +14,7 @@ ghost use Rattle.crease_store.specs.Added.{covers};
 ghost use Rattle.crease_store.specs.Answer.{IsAnswer};
 
 use crate::faults::StoreFault;
-use crate::placing::place_piece;
+use crate::placing::place;
 use crease_model::{Pattern, Piece};
 use plane_geometry::{Point, Segment};
 use std::alloc::{AllocError, Global};
@@ -198,7 +198,7 @@ fn merged_pieces(alloc: Global, pieces: &[Piece]) -> Result<Vec<Piece>, AllocErr
         i -= 1;
         let piece = &pieces[i];
         if !loose(pieces, &arrivals, piece.segment.from()) {
-            place_piece(&mut merged, &merged_from(pieces, &arrivals, piece))?;
+            place(&mut merged, &merged_from(pieces, &arrivals, piece))?;
         }
     }
     Ok(merged)

@@ -1,44 +1,44 @@
 //! Lists in the order of segments.
 
-ghost use Rattle.std.specs.Prelude.{◌≡◌, ◌++◌, ◌∷◌, ◌<◌, ◌≤◌, ◌+◌, take, drop, length, IfOk, IsTrue};
+ghost use Rattle.std.specs.Prelude.{◌≡◌, ◌++◌, ◌∷◌, ◌<◌, ◌≤◌, ◌+◌, take, drop, length, map, IfOk, IsTrue};
 ghost use Rattle.std.specs.Prelude.{OnOk, OnErr, MatchResult};
 ghost use Rattle.std.specs.List.Sorted.{IsPermutation};
 ghost use Rattle.crease_model.specs.Rules.{is_ascending, segments_of};
-ghost use Rattle.crease_store.specs.InOrder.{segment_at, line_at, with_in_order, with_all_in_order};
+ghost use Rattle.crease_store.specs.InOrder.{segment_at, with_in_order, with_all_in_order};
 ghost use Rattle.crease_store.specs.InOrder.{begins_on, never_descends, HaveOneOnEach, IsPutBetween};
 
+use crate::on_segment::OnSegment;
 use crease_model::Piece;
-use plane_geometry::Segment;
 use std::alloc::{AllocError, Global};
 
-// Where a piece on this segment stands among ascending pieces, or where it goes.
-fn place_for(pieces: &[Piece], piece: &Piece) -> Result<usize, usize>
-    requires { IsTrue (is_ascending (segments_of pieces.now)) }
-    ensures bound { MatchResult result (λ i. i < length pieces.now) (λ i. i ≤ length pieces.now) }
+// Where something on this segment stands among what ascends, or where it goes.
+fn place_for<T: OnSegment>(items: &[T], item: &T) -> Result<usize, usize>
+    requires { IsTrue (is_ascending (map T.segment_of items.now)) }
+    ensures bound { MatchResult result (λ i. i < length items.now) (λ i. i ≤ length items.now) }
     ensures value { MatchResult result
-        (λ i. with_in_order segment_at pieces.now piece.now
-        ≡ take i pieces.now ++ piece.now ∷ drop (i + 1) pieces.now)
-        (λ i. with_in_order segment_at pieces.now piece.now
-        ≡ take i pieces.now ++ piece.now ∷ drop i pieces.now) }
+        (λ i. with_in_order T.segment_of items.now item.now
+        ≡ take i items.now ++ item.now ∷ drop (i + 1) items.now)
+        (λ i. with_in_order T.segment_of items.now item.now
+        ≡ take i items.now ++ item.now ∷ drop i items.now) }
 {
-    let i = pieces.partition_point(|other| other.segment.cmp(&piece.segment).is_lt());
-    if i < pieces.len() && pieces[i].segment.cmp(&piece.segment).is_eq() {
+    let i = items.partition_point(|other| other.segment().cmp(item.segment()).is_lt());
+    if i < items.len() && items[i].segment().cmp(item.segment()).is_eq() {
         Ok(i)
     } else {
         Err(i)
     }
 }
 
-/// Puts a piece into its place; a piece on the same segment gives way to it.
-pub fn place_piece(pieces: &mut Vec<Piece>, piece: &Piece) -> Result<(), AllocError>
-    requires { IsTrue (is_ascending (segments_of pieces.old.items)) }
-    ensures ok { OnOk result (pieces.new.items ≡ with_in_order segment_at pieces.old.items piece.now) }
-    ensures order { OnOk result (IsTrue (is_ascending (segments_of pieces.new.items))) }
-    ensures err { OnErr result (pieces.new.items ≡ pieces.old.items) }
+/// Puts something into its place; what stands on the same segment gives way to it.
+pub fn place<T: OnSegment>(items: &mut Vec<T>, item: &T) -> Result<(), AllocError>
+    requires { IsTrue (is_ascending (map T.segment_of items.old.items)) }
+    ensures ok { OnOk result (items.new.items ≡ with_in_order T.segment_of items.old.items item.now) }
+    ensures order { OnOk result (IsTrue (is_ascending (map T.segment_of items.new.items))) }
+    ensures err { OnErr result (items.new.items ≡ items.old.items) }
 {
-    match place_for(pieces.as_slice(), piece) {
-        Ok(i) => pieces[i] = *piece,
-        Err(i) => pieces.insert(i, *piece)?,
+    match place_for(items.as_slice(), item) {
+        Ok(i) => items[i] = *item,
+        Err(i) => items.insert(i, *item)?,
     }
     Ok(())
 }
@@ -127,33 +127,4 @@ pub fn place_pieces(
 {
     sort_pieces(&mut news);
     merged_in(alloc, pieces, news.as_slice())
-}
-
-// Where a line stands among ascending lines, or where it goes.
-fn place_for_line(lines: &[Segment], s: &Segment) -> Result<usize, usize>
-    requires { IsTrue (is_ascending lines.now) }
-    ensures bound { MatchResult result (λ i. i < length lines.now) (λ i. i ≤ length lines.now) }
-    ensures value { MatchResult result
-        (λ i. with_in_order line_at lines.now s.now ≡ take i lines.now ++ s.now ∷ drop (i + 1) lines.now)
-        (λ i. with_in_order line_at lines.now s.now ≡ take i lines.now ++ s.now ∷ drop i lines.now) }
-{
-    let i = lines.partition_point(|other| other.cmp(s).is_lt());
-    if i < lines.len() && lines[i].cmp(s).is_eq() {
-        Ok(i)
-    } else {
-        Err(i)
-    }
-}
-
-/// Puts a line into its place, unless it is there.
-pub fn place_line(lines: &mut Vec<Segment>, s: &Segment) -> Result<(), AllocError>
-    requires { IsTrue (is_ascending lines.old.items) }
-    ensures ok { OnOk result (lines.new.items ≡ with_in_order line_at lines.old.items s.now) }
-    ensures err { OnErr result (lines.new.items ≡ lines.old.items) }
-{
-    match place_for_line(lines.as_slice(), s) {
-        Ok(i) => lines[i] = *s,
-        Err(i) => lines.insert(i, *s)?,
-    }
-    Ok(())
 }

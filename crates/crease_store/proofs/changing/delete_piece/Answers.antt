@@ -7,5 +7,5 @@ use Rattle.crease_store.proofs.changing.delete_piece.Goals as goal
 
 pub with_pieces-requires : goal.with_pieces-requires
 with_pieces-requires c =
-    let new : (let p : PatternView = record { corners = c.args.pattern.now.corners; pieces = c.in_ok-pieces_without.field-0.items; aux = c.args.pattern.now.aux } in p) ≡ without_piece c.args.pattern.now c.args.from.now c.args.to.now = search rules in
+    let new : (let p : PatternView = record { corners = c.args.pattern.now.corners; pieces = c.in_ok-without.field-0.items; aux = c.args.pattern.now.aux } in p) ≡ without_piece c.args.pattern.now c.args.from.now c.args.to.now = search rules in
     subst IsPattern (sym new) (IsPattern-without_piece c.args.pattern.now c.args.from.now c.args.to.now c.pieces.ensures.rules)

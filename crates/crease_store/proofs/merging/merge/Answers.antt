@@ -1,7 +1,6 @@
 use Rattle.crease_store.specs.Merged.{IsMerged, is_loose}
 use Rattle.std.proofs.Common.{◌≡◌, sym, subst}
 use Rattle.std.specs.Prelude.{Contains, IsTrue, IsFalse}
-use Rattle.plane_geometry.specs.declared.Point.{Point}
 use Rattle.plane_geometry.specs.SegmentView.{stretch_of}
 use Rattle.crease_model.specs.declared.Piece.{Piece}
 use Rattle.crease_model.specs.View.{PatternView}

@@ -1,4 +1,4 @@
-use Rattle.std.proofs.Common.{◌≡◌, List, ap, ◌∙◌}
+use Rattle.std.proofs.Common.{List, ap, ◌∙◌}
 use Rattle.crease_model.specs.declared.Piece.{Piece}
 use Rattle.crease_store.specs.InOrder.{segment_at, with_all_in_order}
 use Rattle.crease_store.proofs.InOneWalk.{if_ok_then, sorted_the_same}

@@ -1,4 +1,4 @@
-use Rattle.std.proofs.Common.{◌≡◌, ◌++◌, ◌∷◌, List, ap, sym, ◌∙◌}
+use Rattle.std.proofs.Common.{◌++◌, List, ap, sym, ◌∙◌}
 use Rattle.crease_model.specs.declared.Piece.{Piece}
 use Rattle.crease_store.proofs.InOneWalk.{never_descends_rest, if_ok_then, gives_way, left_up, walked_on}
 use Rattle.crease_store.proofs.placing.put_in.Goals as goal
