@@ -4,6 +4,7 @@ pub mod Sheet
 pub mod View
 pub mod Rules
 pub mod PartLaws
+pub mod ApartLaws
 pub mod NewSheet
 pub mod Laws
 pub mod OwnLines

@@ -19,6 +19,7 @@ use Rattle.plane_geometry.specs.StretchLaws.{before_is, same_is, same_is_turned,
 use Rattle.plane_geometry.specs.DirectionLaws.{along_from_parts, along_unique, along_back, direction_found}
 use Rattle.plane_geometry.specs.OrderLaws.{tied_points, point_is_place}
 use Rattle.plane_geometry.specs.Polygon.{Side}
+use Rattle.crease_model.specs.ApartLaws.{runs_up}
 use Rattle.crease_model.specs.declared.Piece.{Piece}
 use Rattle.crease_model.specs.Sheet.{is_on_segment}
 use Rattle.crease_model.specs.PartLaws.{EndsAt, in_order, turned, segment_ends}
@@ -65,14 +66,6 @@ backward_runs k p =
 abbrev pub Before : Point → Point → Type 0
 Before p q = order_of (position_of p) (position_of q) ≡ Pos
 
-pub lex_of : (s : Segment) → lex_sign (direction_vector (direction_number s)) ≡ Pos
-lex_of s =
-    let S = stretch_of s in
-    sym (along_lex (direction_vector S.dir) (vector_of S.from S.to) (square_sign S.dir)
-    (to_in_line S s.stretch)
-    ∙ ap (λ (t : Sgn). times_sign t (lex_sign (direction_vector S.dir))) (along_sign S s.stretch))
-    ∙ ends_order S s.stretch
-
 by_pos : (t l o : Sgn) → o ≡ times_sign t l → l ≡ Pos → o ≡ Pos → t ≡ Pos
 by_pos Neg Neg o e f g = cc
 by_pos Neg Zero o e f g = cc
@@ -93,7 +86,7 @@ module _ (x : Segment) where
       let zero : side_of u n v ≡ Zero = sym (side_from (stretch_of x).from n u v in_u) ∙ in_v in
       along_from_parts n u v zero
       (by_pos _ (lex_sign (direction_vector n)) (order_of u v)
-      (along_lex (direction_vector n) (vector_of u v) (square_sign n) zero) (lex_of x) less)
+      (along_lex (direction_vector n) (vector_of u v) (square_sign n) zero) (runs_up x) less)
 
 -- ---- ascending points
 
