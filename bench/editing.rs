@@ -62,6 +62,12 @@ fn slanted() -> Vec<Line> {
     (0..660).map(|n| n * 15 - 4950).map(|x| line(Kind::Mountain, (x - 960, -960), (x + 960, 960))).collect()
 }
 
+/// An edge of the sheet beside 2,000 valleys, 190,000 times.
+fn bordered() -> Vec<Line> {
+    let edge = line(Kind::Edge, (-6400, -6400), (6400, -6400));
+    apart().into_iter().chain(std::iter::repeat_n(edge, 190_000)).collect()
+}
+
 /// 160,000 auxiliary lines, of which 2,000 are different.
 fn repeated() -> Vec<Line> {
     (0..160_000).map(|n| n * 7 % 2000 - 1000).map(|x| line(Kind::Aux, (x, -64), (x, x + 1024))).collect()
@@ -75,12 +81,12 @@ fn apart() -> Vec<Line> {
         .collect()
 }
 
-fn crossed(rounds: u32) -> Option<u64> {
+/// A crease across 660 others, of each of these kinds in turn.
+fn crossed(kinds: [Kind; 2], rounds: u32) -> Option<u64> {
     let mut pattern = Pattern::load(&slanted())?;
-    let crease = line(Kind::Valley, (-6400, 0), (6400, 0));
-    for _ in 0..rounds {
+    for n in 0..rounds {
         let mut next = pattern.clone();
-        next.add(black_box(&crease))?;
+        next.add(black_box(&line(kinds[n as usize % 2], (-6400, 0), (6400, 0))))?;
         pattern = next;
     }
     Some(Checksum::of(&pattern))
@@ -110,7 +116,9 @@ fn main() {
     let name = words.next().unwrap_or_default();
     let rounds = words.next().map_or(1, |digits| digits.parse().expect("a count of rounds"));
     let sum = match name.as_str() {
-        "crossing" => crossed(rounds),
+        "crossing" => crossed([Kind::Valley, Kind::Mountain], rounds),
+        "held" => crossed([Kind::Valley, Kind::Valley], rounds),
+        "edges" => loaded(&bordered(), rounds),
         "lines" => loaded(&repeated(), rounds),
         "check" => checked(rounds),
         _ => loaded(&apart(), rounds),

@@ -59,7 +59,7 @@ fn half_edges_of(pattern: &Pattern) -> Vec<HalfEdge> {
         half_edges.push(HalfEdge { start: s.from, direction: s.direction, end: s.to, piece: Some(i) });
         half_edges.push(HalfEdge { start: s.to, direction: (s.direction + 8) % 16, end: s.from, piece: Some(i) });
     }
-    for (first, last) in pattern.sides() {
+    for (first, last, _) in pattern.sides() {
         let direction = direction(first, last).unwrap();
         let mut start = *first;
         for end in vertices_along(first, last, &pattern.pieces).into_iter().chain([*last]) {

@@ -46,6 +46,7 @@ pub struct Segment {
 
 #[derive(Clone, Copy, PartialEq, Eq)]
 pub enum Kind {
+    Edge,
     Mountain,
     Valley,
     Aux,
@@ -67,6 +68,8 @@ pub struct Line {
 #[derive(Clone)]
 pub struct Pattern {
     pub corners: Vec<Point>,
+    /// The direction of the side from each corner.
+    pub sides: Vec<u8>,
     pub pieces: Vec<Piece>,
     pub aux: Vec<Segment>,
 }
@@ -320,18 +323,21 @@ impl Pattern {
     pub fn empty() -> Pattern {
         let corner = |x, y| Point { x: whole(x), y: whole(y) };
         let corners = vec![corner(-200, -200), corner(200, -200), corner(200, 200), corner(-200, 200)];
-        Pattern { corners, pieces: Vec::new(), aux: Vec::new() }
+        let ends = corners.iter().zip(corners.iter().cycle().skip(1));
+        let sides = ends.map(|(start, end)| direction(start, end).unwrap()).collect();
+        Pattern { corners, sides, pieces: Vec::new(), aux: Vec::new() }
     }
 
-    pub fn sides(&self) -> impl Iterator<Item = (&Point, &Point)> {
-        self.corners.iter().zip(self.corners.iter().cycle().skip(1))
+    pub fn sides(&self) -> impl Iterator<Item = (&Point, &Point, u8)> {
+        let ends = self.corners.iter().zip(self.corners.iter().cycle().skip(1));
+        ends.zip(&self.sides).map(|((start, end), direction)| (start, end, *direction))
     }
 
     /// The least side on which a point is: Neg is outside, Zero on the border.
     pub fn place(&self, p: &Point) -> Sign {
         let mut place = Sign::Pos;
-        for (start, end) in self.sides() {
-            match side_from(start, direction(start, end).unwrap(), p) {
+        for (start, _, direction) in self.sides() {
+            match side_from(start, direction, p) {
                 Sign::Neg => return Sign::Neg,
                 Sign::Zero => place = Sign::Zero,
                 Sign::Pos => {}
@@ -345,7 +351,14 @@ impl Pattern {
     }
 
     pub fn on_border(&self, s: &Segment) -> bool {
-        self.sides().any(|(start, end)| Segment::new(start, end).is_some_and(|side| side.has(&s.from) && side.has(&s.to)))
+        self.sides().any(|(start, end, direction)| {
+            let side = if start < end {
+                Segment { from: *start, to: *end, direction }
+            } else {
+                Segment { from: *end, to: *start, direction: (direction + 8) % 16 }
+            };
+            side.has(&s.from) && side.has(&s.to)
+        })
     }
 
     /// The cut points of a segment among pieces that it touches, ascending.
@@ -382,9 +395,25 @@ impl Pattern {
         }
     }
 
+    /// Whether pieces of this kind make up the segment.
+    pub fn has_crease(&self, kind: Kind, s: &Segment) -> bool {
+        let start = self.pieces.partition_point(|piece| piece.segment.from < s.from);
+        let mut at = s.from;
+        for piece in self.pieces[start..].iter().take_while(|piece| piece.segment.from < s.to) {
+            let u = &piece.segment;
+            if u.from == at && u.direction == s.direction && piece.kind == kind {
+                at = u.to;
+            }
+        }
+        at == s.to
+    }
+
     pub fn add_crease(&mut self, kind: Kind, s: &Segment) -> Option<()> {
         if !self.holds(s) || self.on_border(s) {
             return None;
+        }
+        if self.has_crease(kind, s) {
+            return Some(());
         }
         let end = self.pieces.partition_point(|piece| piece.segment.from <= s.to);
         let (touched, mut others): (Vec<Piece>, Vec<Piece>) = self.pieces[..end].iter().partition(|piece| s.touches(&piece.segment));
@@ -428,6 +457,7 @@ impl Pattern {
     pub fn add(&mut self, line: &Line) -> Option<()> {
         let s = Segment::new(&line.from, &line.to)?;
         match line.kind {
+            Kind::Edge => self.on_border(&s).then_some(()),
             Kind::Aux => self.add_aux(&s),
             kind => self.add_crease(kind, &s),
         }
@@ -474,6 +504,7 @@ impl Checksum {
         let mut sum = Checksum(0);
         for piece in &pattern.pieces {
             sum.fold(match piece.kind {
+                Kind::Edge => 1,
                 Kind::Mountain => 2,
                 Kind::Valley => 3,
                 Kind::Aux => 4,

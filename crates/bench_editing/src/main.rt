@@ -24,10 +24,14 @@ const FACTOR: u64 = 6364136223846793005;
 /// What is measured.
 #[derive(Clone, Copy)]
 enum Measure {
-    /// A crease across 660 others, added again and again.
+    /// A crease across 660 others, added as a valley and as a mountain in turn.
     Crossing,
+    /// The same crease added again and again as a valley.
+    Held,
     /// A block of 160,000 auxiliary lines, 2,000 different ones.
     Lines,
+    /// A block of 2,000 creases and then an edge 190,000 times.
+    Edges,
     /// The local faults at 4,000 vertices.
     Check,
     /// A block of 2,000 creases apart from one another.
@@ -139,17 +143,28 @@ fn apart(alloc: Global) -> Option<Vec<LoadLine>> {
     Some(lines)
 }
 
+// 2,000 valleys apart from one another, and then an edge of the sheet 190,000 times.
+fn bordered(alloc: Global) -> Option<Vec<LoadLine>> {
+    let mut lines = apart(alloc)?;
+    let edge = line(0, Kind::Edge, (-6400, -6400), (6400, -6400))?;
+    for _ in 0..190_000i32 {
+        lines.push(edge).ok()?;
+    }
+    Some(lines)
+}
+
 fn empty(alloc: Global) -> Option<Pattern> {
     Some(Pattern::empty(Sheet::square(alloc).ok()?))
 }
 
-// The crease added once more, as often as is asked.
-fn crossed(alloc: Global, rounds: u32) -> Option<u64> {
+// A crease across others added once more, as often as is asked, of the two kinds in turn.
+fn crossed(alloc: Global, kind: Kind, next: Kind, rounds: u32) -> Option<u64> {
     let mut pattern = load(alloc, &empty(alloc)?, slanted(alloc)?.as_slice()).ok()?;
     let from = point(-6400, 0)?;
     let to = point(6400, 0)?;
-    for _ in 0..rounds {
-        pattern = add(alloc, &pattern, Kind::Valley, &from, &to).ok()?;
+    for n in 0..rounds {
+        let kind = if n % 2 == 0 { kind } else { next };
+        pattern = add(alloc, &pattern, kind, &from, &to).ok()?;
     }
     Some(fold_pattern(&pattern))
 }
@@ -177,7 +192,9 @@ fn checked(alloc: Global, rounds: u32) -> Option<u64> {
 
 fn measured(alloc: Global, measure: Measure, rounds: u32) -> Option<u64> {
     match measure {
-        Measure::Crossing => crossed(alloc, rounds),
+        Measure::Crossing => crossed(alloc, Kind::Valley, Kind::Mountain, rounds),
+        Measure::Held => crossed(alloc, Kind::Valley, Kind::Valley, rounds),
+        Measure::Edges => loaded(alloc, bordered(alloc)?.as_slice(), rounds),
         Measure::Lines => loaded(alloc, repeated(alloc)?.as_slice(), rounds),
         Measure::Check => checked(alloc, rounds),
         Measure::Pieces => loaded(alloc, apart(alloc)?.as_slice(), rounds),
@@ -187,6 +204,8 @@ fn measured(alloc: Global, measure: Measure, rounds: u32) -> Option<u64> {
 fn measure_of(word: &str) -> Measure {
     match word {
         "crossing" => Measure::Crossing,
+        "held" => Measure::Held,
+        "edges" => Measure::Edges,
         "lines" => Measure::Lines,
         "check" => Measure::Check,
         _ => Measure::Pieces,
