@@ -1,11 +1,11 @@
 -- The rules of a crease pattern.
-use Rattle.std.specs.Prelude.{ℕ, ◌+◌, ◌≤◌, Bool, true, false, ◌&&◌, not, List, [], ◌∷◌, length, map, IsTrue, ⊤}
+use Rattle.std.specs.Prelude.{◌≡◌, ◌⊎◌, ℕ, ◌+◌, ◌≤◌, Bool, true, false, ◌&&◌, not, List, [], ◌∷◌, length, map, IsTrue, ⊤}
 use Rattle.std.specs.List.{AllByRecursion}
 use Rattle.plane_geometry.specs.declared.Point.{Point}
 use Rattle.plane_geometry.specs.declared.Segment.{Segment}
 use Rattle.plane_geometry.specs.Order.{is_before}
 use Rattle.plane_geometry.specs.Stretch.{Stretch, MeetAtEnds}
-use Rattle.plane_geometry.specs.SegmentView.{stretch_of}
+use Rattle.plane_geometry.specs.SegmentView.{stretch_of, lesser_end, greater_end}
 use Rattle.crease_model.specs.declared.Kind.{Kind}
 use Rattle.crease_model.specs.declared.Kind.TheVariants.{Edge, Mountain, Valley, Aux}
 use Rattle.crease_model.specs.declared.Piece.{Piece}
@@ -28,6 +28,10 @@ abbrev pub is_crease : List Point → Piece → Bool
 is_crease corners p =
     is_crease_kind p.kind
     && (is_on_sheet corners (stretch_of p.segment) && not (is_within_side corners (stretch_of p.segment)))
+
+-- v is an end of the piece
+abbrev pub IsEndOf : Piece → Point → Type 0
+IsEndOf p v = (lesser_end p.segment ≡ v) ⊎ (greater_end p.segment ≡ v)
 
 -- each two pieces meet at ends alone
 abbrev pub AllMeetAtEnds : List Piece → Type 0

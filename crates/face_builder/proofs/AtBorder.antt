@@ -10,8 +10,8 @@ use Rattle.surd_number.specs.SignLaws.{opposite_sign}
 use Rattle.plane_geometry.specs.declared.Point.{Point}
 use Rattle.plane_geometry.specs.declared.Segment.{Segment}
 use Rattle.plane_geometry.specs.declared.Dir.{Dir}
-use Rattle.plane_geometry.specs.DirView.{dir_number}
-use Rattle.plane_geometry.specs.Position.{Position, position_of, compare_positions}
+use Rattle.plane_geometry.specs.DirView.{dir_number, dir_of}
+use Rattle.plane_geometry.specs.Position.{Position, position_of, compare_positions, compare_points}
 use Rattle.plane_geometry.specs.Direction.{side_of, is_positive, is_negative, is_along, opposite_number, turn_sign}
 use Rattle.plane_geometry.specs.SegmentView.{lesser_end, greater_end, stretch_of}
 use Rattle.plane_geometry.specs.SegmentOf.{segment_from, segment_of}
@@ -27,8 +27,8 @@ use Rattle.crease_model.specs.PartLaws.{EndsAt, in_order, turned, segment_ends, 
 use Rattle.crease_model.specs.View.{PatternView}
 use Rattle.line_split.specs.MemberLaws.{Member, all_member, member_any}
 use Rattle.face_builder.specs.declared.half_edges.HalfEdge.{HalfEdge}
-use Rattle.face_builder.specs.HalfEdge.{dir_of, forward, backward, parts_from, side_parts, border_parts}
-use Rattle.face_builder.specs.Vertices.{compare_points, vertices_between, vertices_along}
+use Rattle.face_builder.specs.HalfEdge.{forward, backward, parts_from, side_parts, border_parts}
+use Rattle.face_builder.specs.Vertices.{vertices_between, vertices_along}
 use Rattle.face_builder.proofs.Apart.{moves}
 use Rattle.face_builder.proofs.Border.{Goes, Runs, IsInside, inside_is, between_is, row_goes, row_of, part_is}
 use Rattle.face_builder.proofs.Chains.{Chain, member_either, reverse_member, flat_member}

@@ -9,7 +9,7 @@ use Rattle.surd_number.specs.SignLaws.{opposite_sign, times_sign}
 use Rattle.plane_geometry.specs.declared.Point.{Point}
 use Rattle.plane_geometry.specs.declared.Segment.{Segment}
 use Rattle.plane_geometry.specs.declared.Dir.{Dir}
-use Rattle.plane_geometry.specs.Position.{Position, position_of, vector_of}
+use Rattle.plane_geometry.specs.Position.{Position, position_of, vector_of, compare_points, is_same_point}
 use Rattle.plane_geometry.specs.Direction.{direction_vector, side_of, is_positive, is_negative, is_zero, is_along, direction_of, opposite_number}
 use Rattle.plane_geometry.specs.DirView.{dir_number}
 use Rattle.plane_geometry.specs.SegmentView.{lesser_end, greater_end, direction_number, stretch_of}
@@ -28,7 +28,7 @@ use Rattle.face_builder.specs.declared.half_edges.HalfEdge.{HalfEdge}
 use Rattle.face_builder.specs.HalfEdge.{forward, backward, parts_from}
 pub use Rattle.face_builder.specs.HalfEdgeKinds.{Goes}
 use Rattle.face_builder.specs.Sorted.{others_after, each_once}
-use Rattle.face_builder.specs.Vertices.{compare_points, is_same_point, is_between, point_between, ends_between, ascending_of, vertices_between, vertices_along}
+use Rattle.face_builder.specs.Vertices.{is_between, point_between, ends_between, ascending_of, vertices_between, vertices_along}
 use Rattle.face_builder.proofs.Chains.{Chain, chain_close, chain_open, chain_as, chain_reverse, member_either, reverse_member, flat_member}
 use Rattle.face_builder.proofs.Ordered.{points_total}
 use Rattle.face_builder.proofs.Sorting.{Up, in_order_up, in_order_member}

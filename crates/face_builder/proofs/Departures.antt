@@ -7,7 +7,7 @@ use Rattle.surd_number.specs.NumberLaws.{number_ring}
 use Rattle.surd_number.specs.SignLaws.{sign_of-same, sign_of-sum_positive}
 use Rattle.plane_geometry.specs.declared.Point.{Point}
 use Rattle.plane_geometry.specs.declared.Dir.{Dir}
-use Rattle.plane_geometry.specs.DirView.{dir_number}
+use Rattle.plane_geometry.specs.DirView.{dir_number, dir_of}
 use Rattle.plane_geometry.specs.Position.{Position, position_of, vector_of, dot_of}
 use Rattle.plane_geometry.specs.Direction.{direction_vector, side_of, is_along, opposite_number, turn_sign}
 use Rattle.plane_geometry.specs.SideLaws.{side_from}
@@ -20,7 +20,7 @@ use Rattle.crease_model.specs.Sheet.{is_sheet}
 use Rattle.crease_model.specs.View.{PatternView}
 use Rattle.line_split.specs.MemberLaws.{Member}
 use Rattle.face_builder.specs.declared.half_edges.HalfEdge.{HalfEdge}
-use Rattle.face_builder.specs.HalfEdge.{dir_of, forward, backward, both_ways, parts_from, side_parts, border_parts, all_half_edges}
+use Rattle.face_builder.specs.HalfEdge.{forward, backward, both_ways, parts_from, side_parts, border_parts, all_half_edges}
 use Rattle.face_builder.specs.Vertices.{vertices_along}
 use Rattle.face_builder.proofs.Apart.{moves}
 use Rattle.face_builder.proofs.AtBorder.{IsBorder, IsWay, border_is, way_left, part_ends}

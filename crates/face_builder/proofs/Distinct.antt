@@ -6,7 +6,7 @@ use Rattle.std.specs.Ordering.{is_lt}
 use Rattle.std.proofs.lemmas.Bool.{cond_both, and_parts}
 use Rattle.plane_geometry.specs.declared.Point.{Point}
 use Rattle.plane_geometry.specs.declared.Dir.{Dir}
-use Rattle.plane_geometry.specs.DirView.{dir_number}
+use Rattle.plane_geometry.specs.DirView.{dir_number, dir_of}
 use Rattle.plane_geometry.specs.Position.{position_of}
 use Rattle.plane_geometry.specs.Polygon.{Side, sides_of, side_number, has_direction}
 use Rattle.crease_model.specs.declared.Piece.{Piece}
@@ -15,7 +15,7 @@ use Rattle.crease_model.specs.PartLaws.{direction_is_along}
 use Rattle.crease_model.specs.View.{PatternView}
 use Rattle.line_split.specs.MemberLaws.{Member}
 use Rattle.face_builder.specs.declared.half_edges.HalfEdge.{HalfEdge}
-use Rattle.face_builder.specs.HalfEdge.{dir_of, forward, backward, both_ways, parts_from, side_parts, border_parts, all_half_edges, compare_half_edges, half_edges_of}
+use Rattle.face_builder.specs.HalfEdge.{forward, backward, both_ways, parts_from, side_parts, border_parts, all_half_edges, compare_half_edges, half_edges_of}
 use Rattle.face_builder.specs.Sorted.{with_in_order, in_order}
 use Rattle.face_builder.specs.Vertices.{vertices_along}
 use Rattle.face_builder.proofs.AtBorder.{part_ends}

@@ -24,7 +24,7 @@ use Rattle.face_builder.specs.Faces.{corners_of, led_face, faces_among}
 use Rattle.face_builder.specs.Fan.{next_place, nexts_of}
 use Rattle.face_builder.specs.HalfEdge.{half_edges_of}
 use Rattle.face_builder.specs.MapRules.{compare_sides, first_sides}
-use Rattle.face_builder.specs.Vertices.{compare_points}
+use Rattle.plane_geometry.specs.Position.{compare_points}
 use Rattle.face_builder.proofs.Departures.{kind_of, depart_once}
 use Rattle.face_builder.proofs.Distinct.{distinct_places, half_edges_distinct}
 use Rattle.face_builder.proofs.LeastFirst.{later_place, sorted}

@@ -6,24 +6,25 @@ use Rattle.std.proofs.lemmas.Bool.{cond_both, both_ways as not_both}
 use Rattle.std.proofs.lemmas.List.{reverse-reverse}
 use Rattle.plane_geometry.specs.declared.Point.{Point}
 use Rattle.plane_geometry.specs.declared.Dir.{Dir}
-use Rattle.plane_geometry.specs.DirView.{dir_number}
+use Rattle.plane_geometry.specs.DirView.{dir_number, dir_of}
 use Rattle.plane_geometry.specs.DirLaws.{dir_is}
 use Rattle.plane_geometry.specs.DirectionLaws.{along_unique}
 use Rattle.plane_geometry.specs.OrderLaws.{tied_points, point_is_place}
 use Rattle.plane_geometry.specs.Polygon.{Side, sides_of, side_number}
-use Rattle.plane_geometry.specs.Position.{position_of}
+use Rattle.plane_geometry.specs.Position.{position_of, compare_points, is_same_point}
 use Rattle.plane_geometry.specs.SegmentView.{lesser_end, greater_end}
 use Rattle.crease_model.specs.declared.Piece.{Piece}
-use Rattle.crease_model.specs.Rules.{IsPattern}
+use Rattle.crease_model.specs.Rules.{IsPattern, IsEndOf}
 use Rattle.crease_model.specs.Sheet.{is_sheet}
 use Rattle.crease_model.specs.PartLaws.{sheet_turns}
 use Rattle.crease_model.specs.View.{PatternView}
 use Rattle.line_split.specs.MemberLaws.{Member, member, contained}
 use Rattle.face_builder.specs.declared.half_edges.HalfEdge.{HalfEdge}
-use Rattle.face_builder.specs.HalfEdge.{dir_of, forward, backward, both_ways, parts_from, side_parts, border_parts, half_edges_of}
-use Rattle.face_builder.specs.HalfEdgeKinds.{Goes, IsEndOf, IsOfPiece, IsVertexOn, IsOfBorder, IsHalfEdge}
+use Rattle.face_builder.specs.HalfEdge.{forward, backward, both_ways, parts_from, side_parts, border_parts, half_edges_of}
+use Rattle.face_builder.specs.HalfEdgeKinds.{IsOfPiece, IsVertexOn, IsOfBorder, IsHalfEdge}
+use Rattle.plane_geometry.specs.Ends.{GoesAlong}
 use Rattle.face_builder.specs.Sorted.{others_after, each_once}
-use Rattle.face_builder.specs.Vertices.{compare_points, is_same_point, is_between, point_between, ends_between, vertices_between, vertices_along}
+use Rattle.face_builder.specs.Vertices.{is_between, point_between, ends_between, vertices_between, vertices_along}
 use Rattle.face_builder.proofs.AtBorder.{IsBorder, part_ends}
 use Rattle.face_builder.proofs.Border.{Runs, row_of, row_goes, once_member, between_is, forward_runs, backward_runs}
 use Rattle.face_builder.proofs.Chains.{Chain, member_either, member_left, member_right, reverse_member, flat_member, member_flat}
@@ -71,8 +72,8 @@ between_has side pieces q z m end e =
     let high = point_between side (greater_end q.segment) in
     let here : Member (ends_between side q) z =
     elim end [
-      | inl at ↦ member_left low high z (point_has side (lesser_end q.segment) z at e)
-      | inr at ↦ member_right low high z (point_has side (greater_end q.segment) z at e)
+      | inl at ↦ member_left low high z (point_has side (lesser_end q.segment) z (sym at) e)
+      | inr at ↦ member_right low high z (point_has side (greater_end q.segment) z (sym at) e)
     ] in
     once_has _ z
     (member_in_order compare_points points_total tied_points (flat_map (ends_between side) pieces) z
@@ -88,8 +89,8 @@ between_end side pieces z m =
       r.1,
       elim (member_either (point_between side (lesser_end r.0.segment))
           (point_between side (greater_end r.0.segment)) z r.2) [
-            | inl l ↦ inl (point_at side (lesser_end r.0.segment) z l)
-            | inr g ↦ inr (point_at side (greater_end r.0.segment) z g)
+            | inl l ↦ inl (sym (point_at side (lesser_end r.0.segment) z l))
+            | inr g ↦ inr (sym (point_at side (greater_end r.0.segment) z g))
           ],
     )
 
@@ -114,46 +115,46 @@ along_between side pieces z =
 -- ---- parts of a row
 
 -- no point of the row is strictly between the ends of a part
-none_within : (d : Dir) (n : ℕ) → n < 16 → (u : Point) (vs : List Point) → Chain (Goes n) (u ∷ vs)
+none_within : (d : Dir) (n : ℕ) → n < 16 → (u : Point) (vs : List Point) → Chain (GoesAlong n) (u ∷ vs)
     → (h : HalfEdge) → Member (parts_from d u vs) h → (v : Point) → Member (u ∷ vs) v
-    → Goes n h.start v → Goes n v h.end → ⊥
+    → GoesAlong n h.start v → GoesAlong n v h.end → ⊥
 none_within d n few u [] c h m v k a b = absurd m
 none_within d n few u (w ∷ ws) c h (inl at) v (inl first) a b =
     not_along_itself n (position_of u) few
-    (subst (λ (z : Point). Goes n u z) (sym first)
-    (subst (λ (g : HalfEdge). Goes n g.start v) (sym at) a))
+    (subst (λ (z : Point). GoesAlong n u z) (sym first)
+    (subst (λ (g : HalfEdge). GoesAlong n g.start v) (sym at) a))
 none_within d n few u (w ∷ ws) c h (inl at) v (inr (inl next)) a b =
     not_along_itself n (position_of w) few
-    (subst (λ (z : Point). Goes n z w) (sym next)
-    (subst (λ (g : HalfEdge). Goes n v g.end) (sym at) b))
+    (subst (λ (z : Point). GoesAlong n z w) (sym next)
+    (subst (λ (g : HalfEdge). GoesAlong n v g.end) (sym at) b))
 none_within d n few u (w ∷ ws) c h (inl at) v (inr (inr k)) a b =
-    let back : Goes n v w = subst (λ (g : HalfEdge). Goes n v g.end) (sym at) b in
+    let back : GoesAlong n v w = subst (λ (g : HalfEdge). GoesAlong n v g.end) (sym at) b in
     not_along_itself n (position_of w) few
     (along_on n (position_of w) (position_of v) (position_of w) (row_later n w ws v c.1 k) back)
 none_within d n few u (w ∷ ws) c h (inr m) v (inl first) a b =
-    let later : Goes n u h.start = row_later n u (w ∷ ws) h.start c (part_ends d w ws h m).0 in
-    let back : Goes n h.start u = subst (λ (z : Point). Goes n h.start z) (sym first) a in
+    let later : GoesAlong n u h.start = row_later n u (w ∷ ws) h.start c (part_ends d w ws h m).0 in
+    let back : GoesAlong n h.start u = subst (λ (z : Point). GoesAlong n h.start z) (sym first) a in
     not_along_itself n (position_of u) few
     (along_on n (position_of u) (position_of h.start) (position_of u) later back)
 none_within d n few u (w ∷ ws) c h (inr m) v (inr k) a b = none_within d n few w ws c.1 h m v k a b
 
 -- two points of the row with none between are the ends of a part
-part_of : (d : Dir) (n : ℕ) → n < 16 → (u : Point) (vs : List Point) → Chain (Goes n) (u ∷ vs)
-    → (p q : Point) → Member (u ∷ vs) p → Member (u ∷ vs) q → Goes n p q
-    → ((v : Point) → Member (u ∷ vs) v → Goes n p v → Goes n v q → ⊥)
+part_of : (d : Dir) (n : ℕ) → n < 16 → (u : Point) (vs : List Point) → Chain (GoesAlong n) (u ∷ vs)
+    → (p q : Point) → Member (u ∷ vs) p → Member (u ∷ vs) q → GoesAlong n p q
+    → ((v : Point) → Member (u ∷ vs) v → GoesAlong n p v → GoesAlong n v q → ⊥)
     → Member (parts_from d u vs) (record { start = p; dir = d; end = q; piece = None })
 part_of d n few u vs c p q (inl a) (inl b) goes alone =
     absurd (not_along_itself n (position_of u) few
-    (subst (λ (z : Point). Goes n z u) (sym a) (subst (λ (z : Point). Goes n p z) (sym b) goes)))
+    (subst (λ (z : Point). GoesAlong n z u) (sym a) (subst (λ (z : Point). GoesAlong n p z) (sym b) goes)))
 part_of d n few u [] c p q (inl a) (inr k) goes alone = absurd k
 part_of d n few u [] c p q (inr m) k goes alone = absurd m
 part_of d n few u (w ∷ ws) c p q (inl a) (inr (inl b)) goes alone =
     inl (λ i. record { start = a i; dir = d; end = b i; piece = None })
 part_of d n few u (w ∷ ws) c p q (inl a) (inr (inr k)) goes alone =
-    absurd (alone w (inr (inl refl)) (subst (λ (z : Point). Goes n z w) a c.0) (row_later n w ws q c.1 k))
+    absurd (alone w (inr (inl refl)) (subst (λ (z : Point). GoesAlong n z w) a c.0) (row_later n w ws q c.1 k))
 part_of d n few u (w ∷ ws) c p q (inr m) (inl b) goes alone =
-    let later : Goes n u p = row_later n u (w ∷ ws) p c m in
-    let back : Goes n p u = subst (λ (z : Point). Goes n p z) (sym b) goes in
+    let later : GoesAlong n u p = row_later n u (w ∷ ws) p c m in
+    let back : GoesAlong n p u = subst (λ (z : Point). GoesAlong n p z) (sym b) goes in
     absurd (not_along_itself n (position_of u) few
     (along_on n (position_of u) (position_of p) (position_of u) later back))
 part_of d n few u (w ∷ ws) c p q (inr m) (inr k) goes alone =
@@ -231,7 +232,7 @@ module _ (p : PatternView) (sheet : is_sheet p.corners ≡ true) (rules : IsPatt
       let r = few_of p sheet rules s m in
       let row = row_goes s p.pieces n r.1 r.0 in
       let vs = vertices_along s p.pieces ++ s.end ∷ [] in
-      let goes : Goes n h.start h.end = subst (λ k. Goes k h.start h.end) b.direction run in
+      let goes : GoesAlong n h.start h.end = subst (λ k. GoesAlong k h.start h.end) b.direction run in
       let part = part_of (dir_of n) n r.1 s.start vs row h.start h.end (on_row s h.start b.start)
       (on_row s h.end b.end) goes (λ v o. b.neighbours v (row_vertex s v o)) in
       let same : n % 16 ≡ n = omega (arith, r.1) in
@@ -269,9 +270,9 @@ module _ (p : PatternView) (sheet : is_sheet p.corners ≡ true) (rules : IsPatt
   -- half-edges of one piece with the same ends are one
   one_way : (g h : HalfEdge) → Runs g → Runs h → g.start ≡ h.start → g.end ≡ h.end → g.piece ≡ h.piece → g ≡ h
   one_way g h run_g run_h start end piece =
-      let run : Goes (dir_number g.dir) h.start h.end =
-      subst (λ (z : Point). Goes (dir_number g.dir) z h.end) start
-      (subst (λ (z : Point). Goes (dir_number g.dir) g.start z) end run_g) in
+      let run : GoesAlong (dir_number g.dir) h.start h.end =
+      subst (λ (z : Point). GoesAlong (dir_number g.dir) z h.end) start
+      (subst (λ (z : Point). GoesAlong (dir_number g.dir) g.start z) end run_g) in
       from_parts g h start
       (dir_is g.dir h.dir
       (along_unique (dir_number g.dir) (dir_number h.dir) (position_of h.start) (position_of h.end)

@@ -8,7 +8,7 @@ use Rattle.std.specs.declared.cmp.Ordering.TheVariants.{Less, Equal, Greater}
 use Rattle.std.proofs.lemmas.Bool.{and_from, not_from_false}
 use Rattle.std.proofs.lemmas.Cmp.{tied_itself}
 use Rattle.plane_geometry.specs.declared.Point.{Point}
-use Rattle.plane_geometry.specs.Position.{position_of, compare_positions}
+use Rattle.plane_geometry.specs.Position.{position_of, compare_positions, compare_points}
 use Rattle.plane_geometry.specs.Polygon.{sides_of, has_direction}
 use Rattle.crease_model.specs.Sheet.{is_least_first}
 use Rattle.crease_model.specs.View.{PatternView}
@@ -16,7 +16,6 @@ use Rattle.line_split.specs.MemberLaws.{Member}
 use Rattle.face_builder.specs.declared.half_edges.HalfEdge.{HalfEdge}
 use Rattle.face_builder.specs.HalfEdge.{all_half_edges, compare_half_edges, half_edges_of}
 use Rattle.face_builder.specs.Faces.{corners_of}
-use Rattle.face_builder.specs.Vertices.{compare_points}
 use Rattle.face_builder.proofs.Nexts.{GoesOn, member_of_place}
 use Rattle.face_builder.proofs.Ordered.{points_total, half_edges_total, tied_half_edges}
 use Rattle.face_builder.proofs.Rounds.{IsRound}

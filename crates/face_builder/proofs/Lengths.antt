@@ -14,11 +14,13 @@ use Rattle.crease_model.specs.Sheet.{is_sheet}
 use Rattle.crease_model.specs.View.{PatternView}
 use Rattle.crease_model.specs.Rules.{IsPattern}
 use Rattle.face_builder.specs.declared.half_edges.HalfEdge.{HalfEdge}
-use Rattle.face_builder.specs.HalfEdge.{dir_of, compare_half_edges, both_ways, parts_from, side_parts, border_parts, all_half_edges, half_edges_of}
+use Rattle.face_builder.specs.HalfEdge.{compare_half_edges, both_ways, parts_from, side_parts, border_parts, all_half_edges, half_edges_of}
+use Rattle.plane_geometry.specs.DirView.{dir_of}
 use Rattle.face_builder.specs.Cycle.{is_leader, leaders_from}
 use Rattle.face_builder.specs.Faces.{led_face, led_faces}
 use Rattle.face_builder.specs.Sorted.{with_in_order, in_order, others_after, each_once}
-use Rattle.face_builder.specs.Vertices.{compare_points, is_same_point, is_between, point_between, ends_between, vertices_between, vertices_along}
+use Rattle.face_builder.specs.Vertices.{is_between, point_between, ends_between, vertices_between, vertices_along}
+use Rattle.plane_geometry.specs.Position.{compare_points, is_same_point}
 
 module _ {X : Type 0} (compare : X → X → Ordering) where
   length_with : (x : X) (xs : List X) → length (with_in_order compare x xs) ≡ length xs + 1

@@ -12,12 +12,11 @@ use Rattle.surd_number.specs.SignLaws.{compare_of_total}
 use Rattle.plane_geometry.specs.declared.Point.{Point}
 use Rattle.plane_geometry.specs.DirView.{dir_number}
 use Rattle.plane_geometry.specs.DirLaws.{dir_is}
-use Rattle.plane_geometry.specs.Position.{Position, position_of}
+use Rattle.plane_geometry.specs.Position.{Position, position_of, compare_points}
 use Rattle.plane_geometry.specs.OrderLaws.{tied_points}
 use Rattle.face_builder.specs.declared.half_edges.HalfEdge.{HalfEdge}
 use Rattle.face_builder.specs.HalfEdge.{compare_half_edges}
 use Rattle.face_builder.specs.Sorted.{in_order}
-use Rattle.face_builder.specs.Vertices.{compare_points}
 use Rattle.face_builder.proofs.Sorting.{sorted_is}
 
 then_equal : (a b : Ordering) → ordering_then a b ≡ Equal → (a ≡ Equal) × (b ≡ Equal)

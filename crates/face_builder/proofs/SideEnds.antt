@@ -3,12 +3,12 @@ use Rattle.std.proofs.Common.{◌≡◌, cond, List, [], ◌∷◌, ◌++◌, no
 use Rattle.std.proofs.lemmas.List.{append-nil}
 use Rattle.plane_geometry.specs.declared.Point.{Point}
 use Rattle.plane_geometry.specs.Polygon.{Side}
-use Rattle.plane_geometry.specs.Position.{position_of}
+use Rattle.plane_geometry.specs.Position.{position_of, is_same_point}
 use Rattle.plane_geometry.specs.SegmentOf.{segment_of}
 use Rattle.plane_geometry.specs.SegmentView.{lesser_end, greater_end}
 use Rattle.crease_model.specs.declared.Piece.{Piece}
 use Rattle.crease_model.specs.Sheet.{is_on_segment}
-use Rattle.face_builder.specs.Vertices.{is_same_point, point_between, ends_between}
+use Rattle.face_builder.specs.Vertices.{point_between, ends_between}
 
 point_not_between : (side : Side) (v : Point) → segment_of side.start side.end ≡ None → point_between side v ≡ []
 point_not_between side v none =

@@ -4,7 +4,7 @@ use Rattle.std.specs.List.{list_all}
 use Rattle.std.proofs.lemmas.Bool.{and_parts}
 use Rattle.plane_geometry.specs.declared.Point.{Point}
 use Rattle.plane_geometry.specs.declared.Dir.{Dir}
-use Rattle.plane_geometry.specs.DirView.{dir_number}
+use Rattle.plane_geometry.specs.DirView.{dir_number, dir_of}
 use Rattle.plane_geometry.specs.Position.{position_of}
 use Rattle.plane_geometry.specs.Polygon.{Side, sides_from, sides_of, side_number, has_direction}
 use Rattle.crease_model.specs.declared.Piece.{Piece}
@@ -12,7 +12,7 @@ use Rattle.crease_model.specs.PartLaws.{direction_is_along}
 use Rattle.crease_model.specs.View.{PatternView}
 use Rattle.line_split.specs.MemberLaws.{Member}
 use Rattle.face_builder.specs.declared.half_edges.HalfEdge.{HalfEdge}
-use Rattle.face_builder.specs.HalfEdge.{dir_of, forward, backward, both_ways, side_parts, border_parts, all_half_edges, compare_half_edges, half_edges_of}
+use Rattle.face_builder.specs.HalfEdge.{forward, backward, both_ways, side_parts, border_parts, all_half_edges, compare_half_edges, half_edges_of}
 use Rattle.face_builder.specs.Vertices.{vertices_along}
 use Rattle.face_builder.proofs.Border.{Goes, Runs, forward_runs, backward_runs, row_goes, part_is, part_leads, first_part}
 use Rattle.face_builder.proofs.Chains.{Chain, member_left, member_right, member_either, member_flat, flat_member}

@@ -7,21 +7,15 @@ use Rattle.std.specs.declared.cmp.Ordering.{Ordering}
 use Rattle.std.proofs.Common.{arith}
 use Rattle.plane_geometry.specs.declared.Point.{Point}
 use Rattle.plane_geometry.specs.declared.Dir.{Dir}
-use Rattle.plane_geometry.specs.DirView.{dir_number}
+use Rattle.plane_geometry.specs.DirView.{dir_number, dir_of}
 use Rattle.plane_geometry.specs.SegmentView.{lesser_end, greater_end, direction_number}
 use Rattle.crease_model.specs.declared.Piece.{Piece}
 use Rattle.plane_geometry.specs.Polygon.{Side, sides_of, side_number}
 use Rattle.crease_model.specs.View.{PatternView}
 use Rattle.face_builder.specs.declared.half_edges.HalfEdge.{HalfEdge}
 use Rattle.face_builder.specs.Sorted.{in_order}
-use Rattle.face_builder.specs.Vertices.{compare_points, vertices_along}
-
-pub number_in_range : (n : ℕ) → n % 16 ≤ 15
-number_in_range n = omega arith
-
--- the direction of this number, modulo 16
-abbrev pub dir_of : ℕ → Dir
-dir_of n = record { number = n % 16; in_range = number_in_range n }
+use Rattle.face_builder.specs.Vertices.{vertices_along}
+use Rattle.plane_geometry.specs.Position.{compare_points}
 
 -- ---- pieces
 

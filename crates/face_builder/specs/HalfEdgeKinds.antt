@@ -2,21 +2,14 @@
 use Rattle.std.specs.Prelude.{◌≡◌, ℕ, ◌+◌, ◌⊎◌, None, Some, Contains, IsTrue, slice_get}
 use Rattle.plane_geometry.specs.declared.Point.{Point}
 use Rattle.plane_geometry.specs.DirView.{dir_number}
-use Rattle.plane_geometry.specs.Direction.{is_along}
+use Rattle.plane_geometry.specs.Ends.{GoesAlong}
 use Rattle.plane_geometry.specs.Polygon.{Side, sides_of, side_number}
-use Rattle.plane_geometry.specs.Position.{position_of}
 use Rattle.plane_geometry.specs.SegmentView.{lesser_end, greater_end}
 use Rattle.crease_model.specs.declared.Piece.{Piece}
+use Rattle.crease_model.specs.Rules.{IsEndOf}
 use Rattle.crease_model.specs.View.{PatternView}
 use Rattle.face_builder.specs.declared.half_edges.HalfEdge.{HalfEdge}
 use Rattle.face_builder.specs.Vertices.{is_between}
-
--- from u to v it goes in direction n
-abbrev pub Goes : ℕ → Point → Point → Type 0
-Goes n u v = IsTrue (is_along n (position_of u) (position_of v))
-
-abbrev pub IsEndOf : Piece → Point → Type 0
-IsEndOf q v = (v ≡ lesser_end q.segment) ⊎ (v ≡ greater_end q.segment)
 
 -- from one end of the piece to the other
 abbrev pub RunsAlong : Piece → HalfEdge → Type 0
@@ -46,10 +39,10 @@ pub record IsOfBorder (p : PatternView) (h : HalfEdge) : Type 0 where
   pub direction : dir_number h.dir ≡ side_number side
   pub start : IsVertexOn p side h.start
   pub end : IsVertexOn p side h.end
-  pub neighbours : (v : Point) → IsVertexOn p side v → Goes (side_number side) h.start v
-      → Goes (side_number side) v h.end → ⊥
+  pub neighbours : (v : Point) → IsVertexOn p side v → GoesAlong (side_number side) h.start v
+      → GoesAlong (side_number side) v h.end → ⊥
 
 -- it runs in its direction, and is of one of the two kinds
 pub record IsHalfEdge (p : PatternView) (h : HalfEdge) : Type 0 where
-  pub runs : Goes (dir_number h.dir) h.start h.end
+  pub runs : GoesAlong (dir_number h.dir) h.start h.end
   pub kind : IsOfPiece p h ⊎ IsOfBorder p h

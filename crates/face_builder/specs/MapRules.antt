@@ -12,7 +12,7 @@ use Rattle.crease_model.specs.Sheet.{is_least_first}
 use Rattle.face_builder.specs.declared.shared.SharedPiece.{SharedPiece}
 use Rattle.face_builder.specs.declared.walk.Step.{Step}
 use Rattle.face_builder.specs.Faces.{most_faces}
-use Rattle.face_builder.specs.Vertices.{compare_points}
+use Rattle.plane_geometry.specs.Position.{compare_points}
 use Rattle.face_builder.specs.View.{FaceMapView, corners_at}
 use Rattle.face_builder.specs.Walk.{is_reached}
 

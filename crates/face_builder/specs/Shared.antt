@@ -3,7 +3,7 @@ use Rattle.std.specs.Prelude.{ℕ, ◌+◌, nat_eq, Bool, false, ◌&&◌, not, 
 use Rattle.std.specs.List.{list_any}
 use Rattle.std.specs.Ordering.{is_lt}
 use Rattle.crease_model.specs.declared.Piece.{Piece}
-use Rattle.face_builder.specs.Vertices.{compare_points}
+use Rattle.plane_geometry.specs.Position.{compare_points}
 use Rattle.face_builder.specs.declared.half_edges.HalfEdge.{HalfEdge}
 use Rattle.face_builder.specs.declared.shared.SharedPiece.{SharedPiece}
 

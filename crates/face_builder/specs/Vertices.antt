@@ -2,21 +2,14 @@
 use Rattle.std.specs.Prelude.{Bool, ◌&&◌, not, List, [], ◌∷◌, ◌++◌, reverse, if◌then◌else◌}
 use Rattle.std.specs.List.{flat_map}
 use Rattle.std.specs.Ordering.{is_lt}
-use Rattle.std.specs.declared.cmp.Ordering.{Ordering}
 use Rattle.plane_geometry.specs.declared.Point.{Point}
-use Rattle.plane_geometry.specs.Position.{position_of, compare_positions, is_same_position}
+use Rattle.plane_geometry.specs.Position.{position_of, compare_points, is_same_point}
 use Rattle.plane_geometry.specs.SegmentOf.{segment_of}
 use Rattle.plane_geometry.specs.SegmentView.{lesser_end, greater_end}
 use Rattle.crease_model.specs.declared.Piece.{Piece}
 use Rattle.plane_geometry.specs.Polygon.{Side}
 use Rattle.crease_model.specs.Sheet.{is_on_segment}
 use Rattle.face_builder.specs.Sorted.{in_order, each_once}
-
-abbrev pub compare_points : Point → Point → Ordering
-compare_points p q = compare_positions (position_of p) (position_of q)
-
-abbrev pub is_same_point : Point → Point → Bool
-is_same_point p q = is_same_position (position_of p) (position_of q)
 
 -- the points in ascending order, each once
 abbrev pub ascending_of : List Point → List Point

@@ -10,14 +10,6 @@ ghost use Rattle.face_builder.specs.SideFill.{half_edges_of_each};
 
 use crate::cycles::next_of;
 use crate::half_edges::HalfEdge;
-use plane_geometry::Dir;
-
-// The turn from one direction to the next, in steps of 22.5 degrees counterclockwise.
-fn turn(before: Dir, after: Dir) -> u8
-    ensures { result ≡ turn_of (dir_number before) (dir_number after) }
-{
-    (after.number() + 16 - before.number()) % 16
-}
 
 // Whether a face turns off between a half-edge and the one in the next place.
 fn turns_off(half_edges: &[HalfEdge], half_edge: &HalfEdge, next: u32) -> bool
@@ -27,7 +19,7 @@ fn turns_off(half_edges: &[HalfEdge], half_edge: &HalfEdge, next: u32) -> bool
         Some(after) => after.dir,
         None => half_edge.dir,
     };
-    turn(half_edge.dir, after) > 7
+    half_edge.dir.turn_to(after) > 7
 }
 
 /// The first half-edge after which its face turns off.
@@ -52,13 +44,13 @@ fn turns_round(first: &HalfEdge, rest: &[HalfEdge]) -> bool
     let mut before = first.dir;
     let mut turns = 0;
     for half_edge in rest {
-        turns += turn(before, half_edge.dir);
+        turns += before.turn_to(half_edge.dir);
         if turns > 16 {
             return false;
         }
         before = half_edge.dir;
     }
-    turns + turn(before, first.dir) == 16
+    turns + before.turn_to(first.dir) == 16
 }
 
 fn is_twisted(face: &[HalfEdge]) -> bool

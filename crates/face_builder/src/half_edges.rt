@@ -3,7 +3,8 @@
 ghost use Rattle.std.specs.Prelude.{◌≡◌, ◌+◌, ◌∷◌, ◌++◌, ◌<◌, length, IfOk, OnOk};
 ghost use Rattle.std.specs.List.{flat_map};
 ghost use Rattle.plane_geometry.specs.Polygon.{sides_from, side_number};
-ghost use Rattle.face_builder.specs.HalfEdge.{dir_of, forward, backward, both_ways, parts_from, side_parts, border_parts, half_edges_of};
+ghost use Rattle.face_builder.specs.HalfEdge.{forward, backward, both_ways, parts_from, side_parts, border_parts, half_edges_of};
+ghost use Rattle.plane_geometry.specs.DirView.{dir_of};
 
 use crate::vertices::vertices_along;
 use crease_model::{Pattern, Piece};
@@ -21,20 +22,13 @@ pub struct HalfEdge {
     pub piece: Option<u32>,
 }
 
-// The direction of this number, modulo 16.
-fn dir_at(number: u8) -> Dir
-    ensures { result ≡ dir_of number }
-{
-    Dir::new(number % 16).unwrap()
-}
-
 /// The piece of this number from its lesser end to its greater one.
 pub fn forward(number: u32, piece: &Piece) -> HalfEdge
     ensures { result ≡ forward number piece.now }
 {
     HalfEdge {
         start: *piece.segment.from(),
-        dir: dir_at(piece.segment.dir().number()),
+        dir: Dir::modulo(piece.segment.dir().number()),
         end: *piece.segment.to(),
         piece: Some(number),
     }
@@ -46,7 +40,7 @@ pub fn backward(number: u32, piece: &Piece) -> HalfEdge
 {
     HalfEdge {
         start: *piece.segment.to(),
-        dir: dir_at(piece.segment.dir().number() + 8),
+        dir: Dir::modulo(piece.segment.dir().number() + 8),
         end: *piece.segment.from(),
         piece: Some(number),
     }
@@ -92,8 +86,8 @@ fn side_dir(start: &Point, end: &Point) -> Dir
     ensures { result ≡ dir_of (side_number (record { start = start.now; end = end.now })) }
 {
     match direction(start, end) {
-        Some(dir) => dir_at(dir.number()),
-        None => dir_at(0),
+        Some(dir) => Dir::modulo(dir.number()),
+        None => Dir::modulo(0),
     }
 }
 

@@ -2,11 +2,11 @@
 
 ghost use Rattle.std.specs.Prelude.{◌≡◌, ◌∷◌, ◌++◌, [], Some, IfOk, OnOk};
 ghost use Rattle.std.specs.List.{flat_map};
-ghost use Rattle.plane_geometry.specs.Position.{position_of};
+ghost use Rattle.plane_geometry.specs.Position.{position_of, compare_points, is_same_point};
 ghost use Rattle.plane_geometry.specs.SegmentOf.{segment_of};
 ghost use Rattle.crease_model.specs.Sheet.{is_on_segment};
 ghost use Rattle.face_builder.specs.Sorted.{others_after, each_once, in_order};
-ghost use Rattle.face_builder.specs.Vertices.{compare_points, is_same_point, is_between, point_between, ends_between, ascending_of, vertices_along};
+ghost use Rattle.face_builder.specs.Vertices.{is_between, point_between, ends_between, ascending_of, vertices_along};
 
 use crease_model::Piece;
 use plane_geometry::{Point, Segment, on_segment};

@@ -8,7 +8,7 @@ use Rattle.std.specs.declared.cmp.Ordering.{Ordering}
 use Rattle.surd_number.specs.Number.{ordering_of}
 use Rattle.plane_geometry.specs.declared.Point.{Point}
 use Rattle.plane_geometry.specs.declared.Segment.{Segment}
-use Rattle.plane_geometry.specs.Position.{position_of}
+use Rattle.plane_geometry.specs.Position.{position_of, compare_points}
 use Rattle.plane_geometry.specs.SegmentView.{stretch_of, lesser_end, greater_end}
 use Rattle.plane_geometry.specs.SideLaws.{compare_is}
 use Rattle.plane_geometry.specs.StretchLaws.{ends_order}
@@ -18,7 +18,7 @@ use Rattle.line_split.specs.Cuts.{with_piece_cuts, points_or, cuts_from}
 use Rattle.line_split.specs.MemberLaws.{Member}
 use Rattle.line_split.specs.Points.{by_order, with_point, with_points, in_order, equal_points, is_rising}
 use Rattle.line_split.specs.PointLaws.{with_point_new, with_point_old, with_point_either, with_point_rising}
-use Rattle.line_split.specs.SortedLaws.{compare_points, sorted_once}
+use Rattle.line_split.specs.SortedLaws.{sorted_once}
 
 -- ---- one more
 

@@ -18,7 +18,7 @@ use Rattle.surd_number.specs.Number.{compare_of}
 use Rattle.surd_number.specs.SurdLaws.{surd_eq_is, compare_surds_total}
 use Rattle.surd_number.specs.Value.{number_of}
 use Rattle.plane_geometry.specs.declared.Point.{Point}
-use Rattle.plane_geometry.specs.Position.{position_of, compare_positions}
+use Rattle.plane_geometry.specs.Position.{position_of, compare_points}
 use Rattle.plane_geometry.specs.Direction.{is_positive}
 use Rattle.plane_geometry.specs.SideLaws.{order_of}
 use Rattle.plane_geometry.specs.StretchLaws.{before_is, same_is, positive_is, zero_is}
@@ -94,9 +94,6 @@ module _ {X : Type 0} (compare : X → X → Ordering) where
         (λ z m. later y x z ys xs up' (sym same) m (from z (inr m))))
 
 -- ---- the order of points, and their equality
-
-abbrev pub compare_points : Point → Point → Ordering
-compare_points p q = compare_positions (position_of p) (position_of q)
 
 both_equal : (o p : Ordering) → (is_eq o && is_eq p) ≡ is_eq (ordering_then o p)
 both_equal Less p = refl

@@ -17,6 +17,10 @@ position_of p = record { x = number_of p.x; y = number_of p.y }
 abbrev pub compare_positions : Position → Position → Ordering
 compare_positions p q = ordering_then (compare_of p.x q.x) (compare_of p.y q.y)
 
+-- points by their places
+abbrev pub compare_points : Point → Point → Ordering
+compare_points p q = compare_positions (position_of p) (position_of q)
+
 -- p comes before q in the order of points
 abbrev pub ComesBefore : Point → Point → Type 0
 ComesBefore p q = IsTrue (is_lt (compare_positions (position_of p) (position_of q)))
@@ -24,6 +28,9 @@ ComesBefore p q = IsTrue (is_lt (compare_positions (position_of p) (position_of 
 -- both stand for one point of the plane
 abbrev pub is_same_position : Position → Position → Bool
 is_same_position p q = is_eq (compare_positions p q)
+
+abbrev pub is_same_point : Point → Point → Bool
+is_same_point p q = is_same_position (position_of p) (position_of q)
 
 -- the vector from p to q
 abbrev pub vector_of : Position → Position → Position

@@ -73,7 +73,8 @@ pub enum SegmentFault {
 }
 
 impl Dir {
-    ghost use Rattle.plane_geometry.specs.DirView.{dir_number};
+    ghost use Rattle.plane_geometry.specs.DirView.{dir_number, dir_of};
+    ghost use Rattle.plane_geometry.specs.Polygon.{turn_of};
 
     /// The direction of this number, `22.5 * n` degrees; None from 16 on.
     pub fn new(n: u8) -> Option<Dir>
@@ -87,11 +88,25 @@ impl Dir {
         }
     }
 
+    /// The direction of this number, modulo 16.
+    pub fn modulo(n: u8) -> Dir
+        ensures { result ≡ dir_of n }
+    {
+        Dir { number: n % 16 }
+    }
+
     /// The number, 0 to 15.
     pub fn number(&self) -> u8
         ensures { result ≡ dir_number self.now }
     {
         self.number
+    }
+
+    /// The turn from this direction to the next, counterclockwise, in steps of 22.5 degrees.
+    pub fn turn_to(self, next: Dir) -> u8
+        ensures { result ≡ turn_of (dir_number self) (dir_number next) }
+    {
+        (next.number + 16 - self.number) % 16
     }
 }
 

@@ -8,13 +8,13 @@ use Rattle.plane_geometry.specs.declared.Dir.{Dir}
 use Rattle.crease_model.specs.declared.Kind.TheVariants.{Mountain, Valley}
 use Rattle.crease_model.specs.declared.Piece.{Piece}
 use Rattle.crease_model.specs.View.{PatternView}
-use Rattle.crease_model.specs.Rules.{IsPattern}
+use Rattle.crease_model.specs.Rules.{IsPattern, IsEndOf}
 use Rattle.line_split.specs.MemberLaws.{Member, member, contained, member_left, member_right, member_either}
 use Rattle.vertex_checks.specs.declared.fans.Ray.{Ray}
 use Rattle.vertex_checks.specs.declared.faults.LocalFault.{LocalFault}
 use Rattle.vertex_checks.specs.declared.faults.LocalFault.TheVariants.{Kawasaki, Maekawa, BigLittleBig}
 use Rattle.vertex_checks.specs.declared.faults.VertexFault.{VertexFault}
-use Rattle.vertex_checks.specs.Vertices.{IsEnd, IsInnerEnd, vertices_of}
+use Rattle.vertex_checks.specs.Vertices.{IsInnerEnd, vertices_of}
 use Rattle.vertex_checks.specs.Fan.{ray_of, Leaves, IsFan, fan_of}
 use Rattle.plane_geometry.specs.SegmentView.{direction_number}
 use Rattle.crease_model.specs.Kind.{is_same_kind}
@@ -265,7 +265,7 @@ module _ (pattern : PatternView) (rules : IsPattern pattern) where
       some : (r : Ray) → Leaves v p r → 0 < length fan
       some r l = let c = (k.rays r).1 (p, h.ends.1, l) in omega (arith, c.1)
 
-      go : IsEnd p v → 0 < length fan
+      go : IsEndOf p v → 0 < length fan
       go (inl e) = some (ray_of p (direction_number p.segment)) (inl (e, refl))
       go (inr e) = some (ray_of p (direction_number p.segment + 8)) (inr (e, refl))
 

@@ -18,7 +18,7 @@ use Rattle.surd_number.specs.Number.{compare_of}
 use Rattle.surd_number.specs.SurdLaws.{surd_eq_is, compare_surds_total}
 use Rattle.surd_number.specs.Value.{number_of}
 use Rattle.plane_geometry.specs.declared.Point.{Point}
-use Rattle.plane_geometry.specs.Position.{position_of, compare_positions}
+use Rattle.plane_geometry.specs.Position.{position_of, compare_positions, compare_points}
 use Rattle.plane_geometry.specs.Direction.{is_positive}
 use Rattle.plane_geometry.specs.SegmentView.{lesser_end, greater_end}
 use Rattle.plane_geometry.specs.SideLaws.{order_of}
@@ -28,11 +28,12 @@ use Rattle.crease_model.specs.declared.Piece.{Piece}
 use Rattle.crease_model.specs.Sheet.{place_of}
 use Rattle.crease_model.specs.View.{PatternView}
 use Rattle.line_split.specs.MemberLaws.{Member, member, contained, member_left, member_right, member_either}
-use Rattle.line_split.specs.SortedLaws.{compare_points, sorted_once}
+use Rattle.line_split.specs.SortedLaws.{sorted_once}
 use Rattle.line_split.specs.Points.{is_rising}
 use Rattle.line_split.specs.PointLaws.{point_order, rising_rest, rising_later, not_before_itself, not_before_each_other}
 use Rattle.vertex_checks.specs.FanMap.{equal_points}
-use Rattle.vertex_checks.specs.Vertices.{IsEnd, is_inside, inner_point, inner_ends, inner_ends_of, vertices_of}
+use Rattle.vertex_checks.specs.Vertices.{is_inside, inner_point, inner_ends, inner_ends_of, vertices_of}
+use Rattle.crease_model.specs.Rules.{IsEndOf}
 use Rattle.vertex_checks.proofs.SortedLists.{member_flat, flat_member}
 use Rattle.vertex_checks.proofs.VertexLaws.{inside_is, vertices_are_inner_ends}
 
@@ -62,7 +63,7 @@ module _ (corners : List Point) where
       (inl same)
 
   ends_inner : (p : Piece) (z : Point) → Member (inner_ends corners p) z
-      → IsEnd p z × (is_inside (place_of corners (position_of z)) ≡ true)
+      → IsEndOf p z × (is_inside (place_of corners (position_of z)) ≡ true)
   ends_inner p z m =
       elim (member_either (inner_point corners (lesser_end p.segment))
       (inner_point corners (greater_end p.segment)) z m) [
@@ -70,7 +71,7 @@ module _ (corners : List Point) where
         | inr n ↦ (let h = point_inner (greater_end p.segment) z n in (inr h.0, h.1))
       ]
 
-  ends_there : (p : Piece) (z : Point) → IsEnd p z → is_inside (place_of corners (position_of z)) ≡ true
+  ends_there : (p : Piece) (z : Point) → IsEndOf p z → is_inside (place_of corners (position_of z)) ≡ true
       → Member (inner_ends corners p) z
   ends_there p z (inl e) inside =
       member_left (inner_point corners (lesser_end p.segment)) (inner_point corners (greater_end p.segment)) z

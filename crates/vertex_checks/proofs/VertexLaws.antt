@@ -12,7 +12,8 @@ use Rattle.crease_model.specs.View.{PatternView}
 use Rattle.line_split.specs.MemberLaws.{Member, member, contained}
 use Rattle.line_split.specs.Points.{with_point, is_rising}
 use Rattle.line_split.specs.PointLaws.{with_point_new, with_point_old, with_point_either, with_point_rising}
-use Rattle.vertex_checks.specs.Vertices.{IsEnd, IsInnerEnd, is_inside, with_inner, with_inner_ends, vertices_from, vertices_of}
+use Rattle.vertex_checks.specs.Vertices.{IsInnerEnd, is_inside, with_inner, with_inner_ends, vertices_from, vertices_of}
+use Rattle.crease_model.specs.Rules.{IsEndOf}
 use Rattle.vertex_checks.specs.Laws.{VerticesAreInnerEnds}
 
 pub inside_is : (p : Place) → is_inside p ≡ true → p ≡ Inside
@@ -54,7 +55,7 @@ module _ (corners : List Point) where
   ends_old xs p z m = inner_old (first_end xs p) (greater_end p.segment) z
       (inner_old xs (lesser_end p.segment) z m)
 
-  ends_new : (xs : List Point) (p : Piece) (z : Point) → IsEnd p z → test z ≡ true
+  ends_new : (xs : List Point) (p : Piece) (z : Point) → IsEndOf p z → test z ≡ true
       → Member (with_inner_ends corners xs p) z
   ends_new xs p z (inl e) inner =
       inner_old (first_end xs p) (greater_end p.segment) z
@@ -64,7 +65,7 @@ module _ (corners : List Point) where
       (inner_new (first_end xs p) (greater_end p.segment) (ap test e ∙ inner))
 
   ends_either : (xs : List Point) (p : Piece) (z : Point) → Member (with_inner_ends corners xs p) z
-      → (IsEnd p z × (test z ≡ true)) ⊎ Member xs z
+      → (IsEndOf p z × (test z ≡ true)) ⊎ Member xs z
   ends_either xs p z m =
       elim (inner_either (first_end xs p) (greater_end p.segment) z m) [
         | inl h ↦ inl (inr h.0, h.1)
@@ -85,16 +86,16 @@ module _ (corners : List Point) where
   old [] xs z m = m
   old (p ∷ ps) xs z m = old ps (with_inner_ends corners xs p) z (ends_old xs p z m)
 
-  new : (ps : List Piece) (xs : List Point) (p : Piece) (z : Point) → Member ps p → IsEnd p z → test z ≡ true
+  new : (ps : List Piece) (xs : List Point) (p : Piece) (z : Point) → Member ps p → IsEndOf p z → test z ≡ true
       → Member (vertices_from corners ps xs) z
   new [] xs p z m ends inner = absurd m
   new (q ∷ ps) xs p z (inl e) ends inner =
       old ps (with_inner_ends corners xs q) z
-      (ends_new xs q z (subst (λ (t : Piece). IsEnd t z) (sym e) ends) inner)
+      (ends_new xs q z (subst (λ (t : Piece). IsEndOf t z) (sym e) ends) inner)
   new (q ∷ ps) xs p z (inr m) ends inner = new ps (with_inner_ends corners xs q) p z m ends inner
 
   either : (ps : List Piece) (xs : List Point) (z : Point) → Member (vertices_from corners ps xs) z
-      → ((p : Piece) × Member ps p × IsEnd p z × (test z ≡ true)) ⊎ Member xs z
+      → ((p : Piece) × Member ps p × IsEndOf p z × (test z ≡ true)) ⊎ Member xs z
   either [] xs z m = inr m
   either (p ∷ ps) xs z m =
       elim (either ps (with_inner_ends corners xs p) z m) [
@@ -103,7 +104,7 @@ module _ (corners : List Point) where
       ]
 
 from_member : (pattern : PatternView) (v : Point)
-    → ((p : Piece) × Member pattern.pieces p × IsEnd p v
+    → ((p : Piece) × Member pattern.pieces p × IsEndOf p v
     × (is_inside (place_of pattern.corners (position_of v)) ≡ true)) ⊎ Member [] v → IsInnerEnd pattern v
 from_member pattern v (inl h) =
     record { inside = inside_is _ h.3; ends = (h.0, contained pattern.pieces h.0 h.1, h.2) }

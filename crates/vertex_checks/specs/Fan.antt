@@ -6,18 +6,11 @@ use Rattle.std.specs.declared.cmp.Ordering.{Ordering}
 use Rattle.std.proofs.Common.{arith}
 use Rattle.plane_geometry.specs.declared.Point.{Point}
 use Rattle.plane_geometry.specs.declared.Dir.{Dir}
-use Rattle.plane_geometry.specs.DirView.{dir_number}
+use Rattle.plane_geometry.specs.DirView.{dir_number, dir_of}
 use Rattle.plane_geometry.specs.Position.{position_of, is_same_position}
 use Rattle.plane_geometry.specs.SegmentView.{lesser_end, greater_end, direction_number}
 use Rattle.crease_model.specs.declared.Piece.{Piece}
 use Rattle.vertex_checks.specs.declared.fans.Ray.{Ray}
-
-pub number_in_range : (n : ℕ) → n % 16 ≤ 15
-number_in_range n = omega arith
-
--- the direction of this number, modulo 16
-abbrev pub dir_of : ℕ → Dir
-dir_of n = record { number = n % 16; in_range = number_in_range n }
 
 abbrev pub ray_number : Ray → ℕ
 ray_number r = dir_number r.dir

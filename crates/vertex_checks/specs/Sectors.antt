@@ -6,7 +6,8 @@ use Rattle.crease_model.specs.Kind.{is_same_kind}
 use Rattle.crease_model.specs.declared.Kind.TheVariants.{Edge, Mountain, Valley, Aux}
 use Rattle.isometry_map.specs.Linear.{rotation, reflection, composed}
 use Rattle.vertex_checks.specs.declared.fans.Ray.{Ray}
-use Rattle.vertex_checks.specs.Fan.{dir_of, ray_number}
+use Rattle.vertex_checks.specs.Fan.{ray_number}
+use Rattle.plane_geometry.specs.DirView.{dir_of}
 
 -- ---- around a vertex
 

@@ -7,17 +7,14 @@ use Rattle.crease_model.specs.declared.Piece.{Piece}
 use Rattle.crease_model.specs.declared.Place.{Place}
 use Rattle.crease_model.specs.declared.Place.TheVariants.{Outside, Border, Inside}
 use Rattle.crease_model.specs.Sheet.{place_of}
+use Rattle.crease_model.specs.Rules.{IsEndOf}
 use Rattle.crease_model.specs.View.{PatternView}
 use Rattle.line_split.specs.Points.{with_point}
-
--- v is an end of the piece
-abbrev pub IsEnd : Piece → Point → Type 0
-IsEnd p v = (lesser_end p.segment ≡ v) ⊎ (greater_end p.segment ≡ v)
 
 -- strictly inside the sheet, and an end of a piece
 pub record IsInnerEnd (pattern : PatternView) (v : Point) : Type 0 where
   pub inside : place_of pattern.corners (position_of v) ≡ Inside
-  pub ends : (p : Piece) × Contains pattern.pieces p × IsEnd p v
+  pub ends : (p : Piece) × Contains pattern.pieces p × IsEndOf p v
 
 -- ---- the same as a list
 

@@ -2,8 +2,8 @@
 
 ghost use Rattle.std.specs.Prelude.{◌≡◌, ◌+◌, ◌≤◌, ◌<◌, length, ◌++◌, ◌∷◌, take, drop, IfOk, OnOk, if◌then◌else◌};
 ghost use Rattle.plane_geometry.specs.declared.Point.{Point};
-ghost use Rattle.plane_geometry.specs.DirView.{dir_number};
-ghost use Rattle.vertex_checks.specs.Fan.{dir_of, ray_of, ray_at, with_ray, with_ray_if, fan_from, fan_of};
+ghost use Rattle.plane_geometry.specs.DirView.{dir_number, dir_of};
+ghost use Rattle.vertex_checks.specs.Fan.{ray_of, ray_at, with_ray, with_ray_if, fan_from, fan_of};
 ghost use Rattle.vertex_checks.specs.FanMap.{equal_points, kept_fan};
 
 use crease_model::{Kind, Piece};
@@ -23,7 +23,7 @@ impl Default for Ray {
     // the free places of a small vector hold it
     fn default() -> Ray {
         Ray {
-            dir: dir_at(0),
+            dir: Dir::modulo(0),
             kind: Kind::Edge,
         }
     }
@@ -32,18 +32,11 @@ impl Default for Ray {
 /// The creases at each end of a piece, by their directions.
 pub(crate) type Fans = IndexMap<Point, SmallVec<Ray, 8>>;
 
-// The direction of this number, modulo 16.
-fn dir_at(number: u8) -> Dir
-    ensures { result ≡ dir_of number }
-{
-    Dir::new(number % 16).unwrap()
-}
-
 fn ray_to(piece: &Piece, number: u8) -> Ray
     ensures { result ≡ ray_of piece.now number }
 {
     Ray {
-        dir: dir_at(number),
+        dir: Dir::modulo(number),
         kind: piece.kind,
     }
 }

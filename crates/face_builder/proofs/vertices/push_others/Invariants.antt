@@ -1,6 +1,6 @@
 use Rattle.std.proofs.Common.{◌≡◌, ◌++◌, drop}
 use Rattle.face_builder.specs.Sorted.{others_after}
-use Rattle.face_builder.specs.Vertices.{is_same_point}
+use Rattle.plane_geometry.specs.Position.{is_same_point}
 use Rattle.face_builder.proofs.vertices.push_others.Given as goal
 
 abbrev pub invariant-loop-point : goal.invariant-loop-point
