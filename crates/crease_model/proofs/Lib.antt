@@ -4,3 +4,4 @@ pub mod LastSides
 pub mod Rotations
 pub mod NewSheets
 pub mod Bends
+pub mod KnownSides

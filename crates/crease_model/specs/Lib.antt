@@ -1,6 +1,7 @@
 pub mod Kind
 pub mod KindLaws
 pub mod Sheet
+pub mod KnownSide
 pub mod View
 pub mod Rules
 pub mod PartLaws

@@ -15,7 +15,7 @@ mod sides;
 
 use corners::{fault_of, rotated};
 use plane_geometry::{Point, Segment};
-use sides::{place_among, within_side};
+use sides::{KnownSide, known_sides, place_among, within_side};
 use std::alloc::{AllocError, Global};
 use std::marker::Model;
 use surd_number::Surd;
@@ -85,22 +85,23 @@ impl From<AllocError> for SheetFault {
     }
 }
 
-/// A convex sheet, seen as its corners counterclockwise from the least one.
+/// A convex sheet, seen as its corners counterclockwise from the least one. What its sides are is kept beside them.
 #[derive(Drop)]
 pub struct Sheet {
     corners: Vec<Point>,
+    sides: Vec<KnownSide>,
 }
 
 impl Model for Sheet {
-    ghost use Rattle.std.specs.Prelude.{List, IsTrue};
+    ghost use Rattle.std.specs.Prelude.{List};
     ghost use Rattle.plane_geometry.specs.declared.Point.{Point};
-    ghost use Rattle.crease_model.specs.Sheet.{is_sheet};
+    ghost use Rattle.crease_model.specs.KnownSide.{IsKnownSheet};
 
     ghost Value = { List Point };
 
     ghost view = { λ s. s.corners.items };
 
-    ghost invariant = { λ s. IsTrue (is_sheet s.corners.items) };
+    ghost invariant = { λ s. IsKnownSheet s.corners.items s.sides.items };
 }
 
 impl Sheet {
@@ -116,9 +117,16 @@ impl Sheet {
             Point { x: high, y: high },
             Point { x: low, y: high },
         ];
-        Ok(Sheet {
-            corners: Vec::from_slice(alloc, &corners)?,
-        })
+        Sheet::with_sides(Vec::from_slice(alloc, &corners)?)
+    }
+
+    // The sheet with these corners: what its sides are is found here, once.
+    fn with_sides(corners: Vec<Point>) -> Result<Sheet, AllocError>
+        requires { IsTrue (is_sheet corners.items) }
+        ensures { IfOk result (λ sheet. sheet ≡ corners.items) }
+    {
+        let sides = known_sides(*corners.allocator(), corners.as_slice())?;
+        Ok(Sheet { corners, sides })
     }
 
     /// The sheet with these corners, given counterclockwise. It keeps them from the first least one on.
@@ -130,9 +138,7 @@ impl Sheet {
     {
         match fault_of(corners) {
             Some(corner) => Err(SheetFault::BadSheet { corner }),
-            None => Ok(Sheet {
-                corners: rotated(alloc, corners)?,
-            }),
+            None => Ok(Sheet::with_sides(rotated(alloc, corners)?)?),
         }
     }
 
@@ -148,14 +154,14 @@ impl Sheet {
     pub fn place(&self, p: &Point) -> Place
         ensures { result ≡ place_of self.now (position_of p.now) }
     {
-        place_among(self.corners.as_slice(), p)
+        place_among(self.sides.as_slice(), p)
     }
 
     /// Whether a segment is within one side.
     pub fn on_border(&self, s: &Segment) -> bool
         ensures { result ≡ is_within_side self.now (stretch_of s.now) }
     {
-        within_side(self.corners.as_slice(), s)
+        within_side(self.sides.as_slice(), s)
     }
 
     fn allocator(&self) -> Global {
@@ -168,6 +174,7 @@ impl Sheet {
     {
         Ok(Sheet {
             corners: Vec::from_slice(self.allocator(), self.corners.as_slice())?,
+            sides: Vec::from_slice(self.allocator(), self.sides.as_slice())?,
         })
     }
 }

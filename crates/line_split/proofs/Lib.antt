@@ -1,2 +1,3 @@
 pub mod SplitLaws
 mod Gathered
+mod Between

@@ -1,6 +1,6 @@
 -- The laws of cutting, each proved.
 use Rattle.std.proofs.Common.{◌≡◌, ◌↔◌, ℕ, List, refl, sym, ap, subst, ◌∙◌}
-use Rattle.std.specs.Prelude.{◌≢◌, Ok, Err, Contains, IsErrOf, IsTrue, MatchResult}
+use Rattle.std.specs.Prelude.{◌≢◌, Ok, Err, IsErrOf, IsTrue, MatchResult}
 use Rattle.std.specs.declared.result.Result.{Result}
 use Rattle.plane_geometry.specs.declared.Point.{Point}
 use Rattle.plane_geometry.specs.declared.Segment.{Segment}

@@ -2,28 +2,49 @@
 
 ghost use Rattle.std.specs.Prelude.{◌≡◌, ◌++◌, ◌↔◌, drop, Contains, IfOk, OnOk, OnErr, IsTrue};
 ghost use Rattle.crease_model.specs.declared.Piece.{Piece};
+ghost use Rattle.plane_geometry.specs.Position.{position_of};
 ghost use Rattle.plane_geometry.specs.SegmentOf.{segment_of};
 ghost use Rattle.plane_geometry.specs.SegmentView.{stretch_of, lesser_end, greater_end};
+ghost use Rattle.plane_geometry.specs.Stretch.{is_on};
 ghost use Rattle.line_split.specs.Points.{is_rising};
 ghost use Rattle.line_split.specs.Parts.{piece_on, parts_of, pieces_between, inner_points, IsPart};
 
-use crease_model::{Kind, Piece};
+use crease_model::Piece;
 use plane_geometry::{Point, Segment, between_ends};
 use std::alloc::{AllocError, Global};
+use std::cmp::Ordering;
 
-// The piece from one point to another, if they have one of the 16 directions.
-fn push_piece(
+// The part of a segment between two of its points, none where they are one point.
+fn part_between(segment: &Segment, p: &Point, q: &Point) -> Option<Segment>
+    requires first { IsTrue (is_on (position_of p.now) (stretch_of segment.now)) }
+    requires second { IsTrue (is_on (position_of q.now) (stretch_of segment.now)) }
+    ensures { result ≡ segment_of p.now q.now }
+{
+    match p.cmp(q) {
+        Ordering::Less => Some(segment.part(p, q)),
+        Ordering::Equal => None,
+        Ordering::Greater => Some(segment.part(q, p)),
+    }
+}
+
+// The part of a piece between two of its points.
+fn push_part(
     parts: &mut Vec<Piece>,
-    kind: Kind,
-    from: &Point,
-    to: &Point,
+    piece: &Piece,
+    start: &Point,
+    end: &Point,
 ) -> Result<(), AllocError>
+    requires start { IsTrue (is_on (position_of start.now) (stretch_of piece.now.segment)) }
+    requires end { IsTrue (is_on (position_of end.now) (stretch_of piece.now.segment)) }
     ensures ok { OnOk result (parts.new.items
-        ≡ parts.old.items ++ piece_on kind (segment_of from.now to.now)) }
+        ≡ parts.old.items ++ piece_on piece.now.kind (segment_of start.now end.now)) }
     ensures err { OnErr result (parts.new.items ≡ parts.old.items) }
 {
-    if let Ok(segment) = Segment::new(from, to) {
-        parts.push(Piece { kind, segment })?;
+    if let Some(segment) = part_between(&piece.segment, start, end) {
+        parts.push(Piece {
+            kind: piece.kind,
+            segment,
+        })?;
     }
     Ok(())
 }
@@ -39,10 +60,10 @@ pub fn cut_at(alloc: Global, piece: &Piece, points: &[Point]) -> Result<Vec<Piec
     let mut start = *piece.segment.from();
     for point in points {
         if between_ends(point, &piece.segment) {
-            push_piece(&mut parts, piece.kind, &start, point)?;
+            push_part(&mut parts, piece, &start, point)?;
             start = *point;
         }
     }
-    push_piece(&mut parts, piece.kind, &start, piece.segment.to())?;
+    push_part(&mut parts, piece, &start, piece.segment.to())?;
     Ok(parts)
 }
