@@ -22,5 +22,6 @@ pub mod MergeCover
 pub mod OwnPieces
 pub mod OwnLines
 mod InOneWalk
+mod MergedOnce
 mod OwnCuts
 mod Reach

@@ -1,5 +1,5 @@
 -- What is in lists that are put together, and in lists of pieces that meet at ends alone.
-use Rattle.std.proofs.Common.{◌≡◌, ◌⊎◌, inl, inr, List, [], ◌∷◌, refl, sym, subst, ◌∙◌}
+use Rattle.std.proofs.Common.{◌≡◌, ◌⊎◌, inl, inr, List, [], ◌∷◌, map, refl, sym, ap, subst, ◌∙◌}
 use Rattle.std.specs.List.{flat_map}
 use Rattle.plane_geometry.specs.Stretch.{MeetAtEnds}
 use Rattle.plane_geometry.specs.SegmentView.{stretch_of}
@@ -8,6 +8,11 @@ use Rattle.crease_model.specs.Rules.{AllMeetAtEnds}
 use Rattle.line_split.specs.MemberLaws.{Member, all_member, member_left, member_right, member_either}
 
 -- ---- any list
+
+pub member_map : {X A : Type 0} (f : X → A) (xs : List X) (x : X) → Member xs x → Member (map f xs) (f x)
+member_map f [] x m = absurd m
+member_map f (y ∷ ys) x (inl e) = inl (ap f e)
+member_map f (y ∷ ys) x (inr m) = inr (member_map f ys x m)
 
 module _ {X A : Type 0} (f : X → List A) where
   pub member_flat_map : (xs : List X) (x : X) (z : A) → Member xs x → Member (f x) z → Member (flat_map f xs) z

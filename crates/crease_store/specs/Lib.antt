@@ -1,3 +1,4 @@
+pub mod Faults
 pub mod Answer
 pub mod InOrder
 pub mod Added

@@ -1,9 +1,10 @@
 //! Adding a line.
 
-ghost use Rattle.std.specs.Prelude.{◌≡◌, ◌↔◌, ℕ, ◌≤◌, ◌++◌, length, take, drop, Ok, Some};
+ghost use Rattle.std.specs.Prelude.{◌≡◌, ◌↔◌, ℕ, ◌≤◌, ◌++◌, length, take, drop, Ok};
 ghost use Rattle.std.specs.Prelude.{IfOk, IsOk, IsErrOf, OnOk, MatchResult, IsTrue};
 ghost use Rattle.crease_store.specs.declared.faults.StoreRefusal.{StoreRefusal};
 ghost use Rattle.std.specs.Bool.{IsFalse};
+ghost use Rattle.plane_geometry.specs.Ends.{HaveBadDirection};
 ghost use Rattle.plane_geometry.specs.SegmentView.{stretch_of};
 ghost use Rattle.crease_model.specs.Rules.{IsPattern, is_ascending, is_crease_kind, is_on_sheet};
 ghost use Rattle.crease_model.specs.Rules.{most_pieces, segments_of};
@@ -16,11 +17,10 @@ ghost use Rattle.crease_store.specs.Added.{covers, IsAddedBetween};
 ghost use Rattle.crease_store.specs.InOrder.{line_at, with_in_order};
 ghost use Rattle.crease_store.specs.Adding.{add_of, segment_added, edge_added, line_added, crease_added};
 ghost use Rattle.crease_store.specs.Adding.{with_crease, new_parts, uncovered, rest_of, rests_of, if_it_fits};
-ghost use Rattle.crease_store.specs.Adding.{segment_refusal};
-ghost use Rattle.crease_store.specs.AddRefusals.{HaveNoDirection, IsEdgeOffBorder, IsOutsideSheet};
+ghost use Rattle.crease_store.specs.AddRefusals.{IsEdgeOffBorder, IsOutsideSheet};
 ghost use Rattle.crease_store.specs.AddRefusals.{IsCreaseOnBorder, IsCreaseOutOfRange, GivesTooMany};
 ghost use Rattle.crease_store.specs.AddRefusals.{IsRefusedFor};
-ghost use Rattle.crease_store.specs.Answer.{IsAnswer, HasMemory, refusal_of};
+ghost use Rattle.crease_store.specs.Answer.{IsAnswer, HasMemory};
 
 use crate::faults::StoreFault;
 use crate::placing::{place, place_pieces};
@@ -199,11 +199,8 @@ fn add_crease(
     if pattern.sheet().on_border(s) {
         return Err(StoreFault::OnBorder);
     }
-    match cutting_of(alloc, s, pattern.pieces()) {
-        Ok(cutting) => add_cut(alloc, pattern, kind, s, &cutting),
-        Err(SplitFault::OutOfRange { piece }) => Err(StoreFault::Crossing { piece }),
-        Err(SplitFault::Memory) => Err(StoreFault::Memory),
-    }
+    let cutting = cutting_of(alloc, s, pattern.pieces())?;
+    add_cut(alloc, pattern, kind, s, &cutting)
 }
 
 fn add_line(pattern: Pattern, s: &Segment) -> Result<Pattern, StoreFault>
@@ -248,17 +245,6 @@ fn add_segment(
     }
 }
 
-// Why there is no segment between two points.
-fn no_segment(from: &Point, to: &Point) -> StoreFault
-    ensures { refusal_of result ≡ Some (segment_refusal from.now to.now) }
-{
-    if from.cmp(to).is_eq() {
-        StoreFault::ZeroLength
-    } else {
-        StoreFault::BadDirection
-    }
-}
-
 /// The pattern with the segment between two points, if there is one. What stays of it is moved, not copied.
 #[tactic(auto, unfolding(crate::specs::Adding::add_of))]
 pub fn add_between(
@@ -270,10 +256,8 @@ pub fn add_between(
 ) -> Result<Pattern, StoreFault>
     ensures { IsAnswer result (add_of pattern kind from.now to.now) }
 {
-    match Segment::new(from, to) {
-        Ok(s) => add_segment(alloc, pattern, kind, &s),
-        Err(_) => Err(no_segment(from, to)),
-    }
+    let s = Segment::new(from, to)?;
+    add_segment(alloc, pattern, kind, &s)
 }
 
 // The same of a pattern that is lent.
@@ -301,7 +285,7 @@ pub fn add(
     ensures added { IfOk result (λ new. IsAddedBetween pattern.now kind from.now to.now new) }
     ensures zero_length { IsErrOf result StoreFault.ZeroLength ↔ (HasMemory result × (from.now ≡ to.now)) }
     ensures bad_direction { IsErrOf result StoreFault.BadDirection
-        ↔ (HasMemory result × HaveNoDirection from.now to.now) }
+        ↔ (HasMemory result × HaveBadDirection from.now to.now) }
     ensures edge_off_border { IsErrOf result StoreFault.EdgeOffBorder
         ↔ (HasMemory result × IsEdgeOffBorder pattern.now kind from.now to.now) }
     ensures outside_sheet { IsErrOf result StoreFault.OutsideSheet
