@@ -63,7 +63,7 @@ module _ (pieces : List Piece) (meetings : AllMeetAtEnds pieces) where
       ones_meet pieces meetings p (merged_from pieces p) q (merged_from pieces q) m n (merged_one pieces p m) (merged_one pieces q n) begins_p begins_q differ
 
   -- two chains are on different segments
-  differ : (p q : Piece) → Member pieces p → Member pieces q → is_loose pieces (lesser_end p.segment) ≡ false → is_loose pieces (lesser_end q.segment) ≡ false → (p ≡ q → ⊥) → (merged_from pieces p).segment ≡ (merged_from pieces q).segment → ⊥
+  pub differ : (p q : Piece) → Member pieces p → Member pieces q → is_loose pieces (lesser_end p.segment) ≡ false → is_loose pieces (lesser_end q.segment) ≡ false → (p ≡ q → ⊥) → (merged_from pieces p).segment ≡ (merged_from pieces q).segment → ⊥
   differ p q m n begins_p begins_q apart same =
       not_itself (merged_from pieces p).segment
       (subst (λ (t : Segment). MeetAtEnds (stretch_of (merged_from pieces p).segment) (stretch_of t)) (sym same) (two_meet p q m n begins_p begins_q apart))
@@ -84,7 +84,7 @@ module _ (pieces : List Piece) (meetings : AllMeetAtEnds pieces) where
       go false e (inl at) rest = subst (λ (t : Piece). Member (with_in_order segment_at (merged_among pieces xs) (merged_from pieces x)) (merged_from pieces t)) at (placed_new segment_at (merged_among pieces xs) (merged_from pieces x))
       go false e (inr n) rest = later e n (placed_old segment_at (merged_among pieces xs) (merged_from pieces x) (merged_from pieces p) (rest n))
 
-  ascending_merged : (ps : List Piece) → is_ascending (segments_of (merged_among pieces ps)) ≡ true
+  pub ascending_merged : (ps : List Piece) → is_ascending (segments_of (merged_among pieces ps)) ≡ true
   ascending_merged [] = refl
   ascending_merged (p ∷ ps) =
       let rest = ascending_merged ps in

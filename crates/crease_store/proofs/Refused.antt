@@ -10,10 +10,12 @@ use Rattle.surd_number.specs.declared.Sgn.TheVariants.{Neg, Zero, Pos}
 use Rattle.surd_number.specs.SignLaws.{opposite_sign}
 use Rattle.plane_geometry.specs.declared.Point.{Point}
 use Rattle.plane_geometry.specs.declared.Segment.{Segment}
+use Rattle.plane_geometry.specs.declared.SegmentFault.{SegmentFault}
+use Rattle.plane_geometry.specs.declared.SegmentFault.TheVariants as none_between
 use Rattle.plane_geometry.specs.Position.{position_of, compare_positions, is_same_position}
 use Rattle.plane_geometry.specs.Direction.{is_positive, is_along}
 use Rattle.plane_geometry.specs.DirectionLaws.{opposite_number, along_unique, along_back}
-use Rattle.plane_geometry.specs.Ends.{HasNoDirection}
+use Rattle.plane_geometry.specs.Ends.{HasNoDirection, HaveBadDirection}
 use Rattle.plane_geometry.specs.SegmentOf.{segment_from, segment_of}
 use Rattle.plane_geometry.specs.SegmentView.{stretch_of}
 use Rattle.plane_geometry.specs.SegmentLaws.{point_is, segment_of-ends, no_direction_back}
@@ -31,6 +33,7 @@ use Rattle.crease_store.specs.declared.faults.StoreFault.{StoreFault}
 use Rattle.crease_store.specs.declared.faults.StoreFault.TheVariants as fault
 use Rattle.crease_store.specs.declared.faults.StoreRefusal.{StoreRefusal}
 use Rattle.crease_store.specs.declared.faults.StoreRefusal.TheVariants.{ZeroLength, BadDirection, EdgeOffBorder, OutsideSheet, OnBorder, Crossing, TooManyPieces, NoSuchPiece}
+use Rattle.crease_store.specs.Faults.{segment_fault}
 use Rattle.crease_store.specs.Answer.{refusal_of, IsRefusal, IsAnswer, HasMemory}
 use Rattle.crease_store.specs.Added.{IsCreaseAdded, IsAdded, IsAddedBetween}
 use Rattle.crease_store.specs.Adding.{with_crease, with_line, if_it_fits, crease_cut, crease_added, line_added, edge_added, segment_added, segment_refusal, added_between, add_of}
@@ -347,6 +350,14 @@ module _ (old : PatternView) (rules : IsPattern old) (from to : Point) where
 -- a line is refused so exactly where the cause holds
 pub refused_for : (old : PatternView) (kind : Kind) (from to : Point) → IsPattern old → (refusal : StoreRefusal) → (add_of old kind from to ≡ Err refusal) ↔ IsRefusedFor old kind from to refusal
 refused_for old kind from to rules refusal = (says old rules from to kind refusal, comes old rules from to kind refusal)
+
+-- why there is no segment between two points is why the line between them is refused
+pub no_segment_told : (old : PatternView) (kind : Kind) (from to : Point) → IsPattern old → (cause : SegmentFault)
+    → (◌≡◌ {A = Result Segment SegmentFault} (Err cause) (Err none_between.ZeroLength) ↔ (from ≡ to))
+    → (◌≡◌ {A = Result Segment SegmentFault} (Err cause) (Err none_between.BadDirection) ↔ HaveBadDirection from to)
+    → IsAnswer (Err (segment_fault cause)) (add_of old kind from to)
+no_segment_told old kind from to rules none_between.ZeroLength zero bad = comes old rules from to kind ZeroLength (zero.0 refl)
+no_segment_told old kind from to rules none_between.BadDirection zero bad = comes old rules from to kind BadDirection (bad.0 refl)
 
 module _ (old : PatternView) (kind : Kind) (from to : Point) (rules : IsPattern old) (result : Result PatternView StoreFault) (exact : IsAnswer result (add_of old kind from to)) where
   pub refused_as : (refusal : StoreRefusal) → IsErrOf result (fault_of refusal) ↔ (HasMemory result × IsRefusedFor old kind from to refusal)

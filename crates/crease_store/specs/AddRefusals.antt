@@ -2,8 +2,7 @@
 use Rattle.std.specs.Prelude.{◌≡◌, ◌≢◌, ◌⊎◌, ℕ, ◌<◌, Some, IsTrue, IsFalse}
 use Rattle.plane_geometry.specs.declared.Point.{Point}
 use Rattle.plane_geometry.specs.declared.Segment.{Segment}
-use Rattle.plane_geometry.specs.Position.{position_of}
-use Rattle.plane_geometry.specs.Ends.{HasNoDirection}
+use Rattle.plane_geometry.specs.Ends.{HaveBadDirection}
 use Rattle.plane_geometry.specs.SegmentOf.{segment_of}
 use Rattle.plane_geometry.specs.SegmentView.{stretch_of}
 use Rattle.crease_model.specs.declared.Kind.{Kind}
@@ -18,10 +17,6 @@ use Rattle.crease_store.specs.declared.faults.StoreRefusal.TheVariants.{EdgeOffB
 use Rattle.crease_store.specs.declared.faults.StoreRefusal.TheVariants.{OnBorder, Crossing}
 use Rattle.crease_store.specs.declared.faults.StoreRefusal.TheVariants.{TooManyPieces, NoSuchPiece}
 use Rattle.crease_store.specs.Added.{IsAdded}
-
--- different points with none of the 16 directions between them
-abbrev pub HaveNoDirection : Point → Point → Type 0
-HaveNoDirection from to = (from ≢ to) × HasNoDirection (position_of from) (position_of to)
 
 -- there is a segment between the points, and it is so
 abbrev pub HasSegment : Point → Point → (Segment → Type 0) → Type 0
@@ -71,7 +66,7 @@ pub record GivesTooMany (old : PatternView) (kind : Kind) (from to : Point) (n :
 -- the cause of each refusal
 abbrev pub IsRefusedFor : PatternView → Kind → Point → Point → StoreRefusal → Type 0
 IsRefusedFor old kind from to ZeroLength = from ≡ to
-IsRefusedFor old kind from to BadDirection = HaveNoDirection from to
+IsRefusedFor old kind from to BadDirection = HaveBadDirection from to
 IsRefusedFor old kind from to EdgeOffBorder = IsEdgeOffBorder old kind from to
 IsRefusedFor old kind from to OutsideSheet = IsOutsideSheet old kind from to
 IsRefusedFor old kind from to OnBorder = IsCreaseOnBorder old kind from to

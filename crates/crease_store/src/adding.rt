@@ -1,9 +1,10 @@
 //! Adding a line.
 
-ghost use Rattle.std.specs.Prelude.{◌≡◌, ◌↔◌, ℕ, ◌≤◌, ◌++◌, length, take, drop, Ok, Some};
+ghost use Rattle.std.specs.Prelude.{◌≡◌, ◌↔◌, ℕ, ◌≤◌, ◌++◌, length, take, drop, Ok};
 ghost use Rattle.std.specs.Prelude.{IfOk, IsOk, IsErrOf, OnOk, MatchResult, IsTrue};
 ghost use Rattle.crease_store.specs.declared.faults.StoreRefusal.{StoreRefusal};
 ghost use Rattle.std.specs.Bool.{IsFalse};
+ghost use Rattle.plane_geometry.specs.Ends.{HaveBadDirection};
 ghost use Rattle.plane_geometry.specs.SegmentView.{stretch_of};
 ghost use Rattle.crease_model.specs.Rules.{IsPattern, is_ascending, is_crease_kind, is_on_sheet};
 ghost use Rattle.crease_model.specs.Rules.{most_pieces, segments_of};
@@ -13,14 +14,14 @@ ghost use Rattle.line_split.specs.Cuts.{cuts_of, touched, untouched};
 ghost use Rattle.line_split.specs.Parts.{parts_of};
 ghost use Rattle.line_split.specs.Points.{is_rising};
 ghost use Rattle.crease_store.specs.Added.{covers, IsAddedBetween};
+ghost use Rattle.crease_store.specs.Held.{is_along_in_kind, GoesOn, IsLedTo, IsHeld};
 ghost use Rattle.crease_store.specs.InOrder.{line_at, with_in_order};
 ghost use Rattle.crease_store.specs.Adding.{add_of, segment_added, edge_added, line_added, crease_added};
 ghost use Rattle.crease_store.specs.Adding.{with_crease, new_parts, uncovered, rest_of, rests_of, if_it_fits};
-ghost use Rattle.crease_store.specs.Adding.{segment_refusal};
-ghost use Rattle.crease_store.specs.AddRefusals.{HaveNoDirection, IsEdgeOffBorder, IsOutsideSheet};
+ghost use Rattle.crease_store.specs.AddRefusals.{IsEdgeOffBorder, IsOutsideSheet};
 ghost use Rattle.crease_store.specs.AddRefusals.{IsCreaseOnBorder, IsCreaseOutOfRange, GivesTooMany};
 ghost use Rattle.crease_store.specs.AddRefusals.{IsRefusedFor};
-ghost use Rattle.crease_store.specs.Answer.{IsAnswer, HasMemory, refusal_of};
+ghost use Rattle.crease_store.specs.Answer.{IsAnswer, HasMemory};
 
 use crate::faults::StoreFault;
 use crate::placing::{place, place_pieces};
@@ -155,6 +156,43 @@ fn cut_parts(
     Ok(all)
 }
 
+// Whether a piece has this kind and the direction of the segment.
+fn along(piece: &Piece, kind: Kind, s: &Segment) -> bool
+    ensures { result ≡ is_along_in_kind kind s.now piece.now }
+{
+    piece.kind.same(kind) && piece.segment.dir().number() == s.dir().number()
+}
+
+// Whether it begins at a point, too.
+fn goes_on(piece: &Piece, kind: Kind, s: &Segment, v: &Point) -> bool
+    ensures { IsTrue result → GoesOn kind s.now v.now piece.now }
+{
+    along(piece, kind, s) && *piece.segment.from() == *v
+}
+
+// How far pieces of this kind lead along the segment from its lesser end.
+fn led_to(pieces: &[Piece], kind: Kind, s: &Segment) -> Point
+    ensures { IsLedTo pieces.now kind s.now result }
+{
+    let mut v = *s.from();
+    for piece in pieces {
+        if goes_on(piece, kind, s, &v) {
+            v = *piece.segment.to();
+        }
+    }
+    v
+}
+
+// Whether ascending pieces of this kind cover the segment, from one of its ends to the other.
+fn is_held(pieces: &[Piece], kind: Kind, s: &Segment) -> bool
+    requires { IsTrue (is_ascending (segments_of pieces.now)) }
+    ensures { IsTrue result → IsHeld pieces.now kind s.now }
+{
+    let begun = &pieces[..reach_of(pieces, s)];
+    let start = begun.partition_point(|piece| piece.segment.from().cmp(s.from()).is_lt());
+    led_to(&begun[start..], kind, s) == *s.to()
+}
+
 fn add_cut(
     alloc: Global,
     pattern: Pattern,
@@ -184,6 +222,7 @@ fn add_cut(
     Ok(Pattern::of(sheet, pieces, aux))
 }
 
+// One that the pieces hold already takes no more than a look at each of them.
 fn add_crease(
     alloc: Global,
     pattern: Pattern,
@@ -199,11 +238,11 @@ fn add_crease(
     if pattern.sheet().on_border(s) {
         return Err(StoreFault::OnBorder);
     }
-    match cutting_of(alloc, s, pattern.pieces()) {
-        Ok(cutting) => add_cut(alloc, pattern, kind, s, &cutting),
-        Err(SplitFault::OutOfRange { piece }) => Err(StoreFault::Crossing { piece }),
-        Err(SplitFault::Memory) => Err(StoreFault::Memory),
+    if is_held(pattern.pieces(), kind, s) {
+        return Ok(pattern);
     }
+    let cutting = cutting_of(alloc, s, pattern.pieces())?;
+    add_cut(alloc, pattern, kind, s, &cutting)
 }
 
 fn add_line(pattern: Pattern, s: &Segment) -> Result<Pattern, StoreFault>
@@ -248,17 +287,6 @@ fn add_segment(
     }
 }
 
-// Why there is no segment between two points.
-fn no_segment(from: &Point, to: &Point) -> StoreFault
-    ensures { refusal_of result ≡ Some (segment_refusal from.now to.now) }
-{
-    if from.cmp(to).is_eq() {
-        StoreFault::ZeroLength
-    } else {
-        StoreFault::BadDirection
-    }
-}
-
 /// The pattern with the segment between two points, if there is one. What stays of it is moved, not copied.
 #[tactic(auto, unfolding(crate::specs::Adding::add_of))]
 pub fn add_between(
@@ -270,10 +298,8 @@ pub fn add_between(
 ) -> Result<Pattern, StoreFault>
     ensures { IsAnswer result (add_of pattern kind from.now to.now) }
 {
-    match Segment::new(from, to) {
-        Ok(s) => add_segment(alloc, pattern, kind, &s),
-        Err(_) => Err(no_segment(from, to)),
-    }
+    let s = Segment::new(from, to)?;
+    add_segment(alloc, pattern, kind, &s)
 }
 
 // The same of a pattern that is lent.
@@ -301,7 +327,7 @@ pub fn add(
     ensures added { IfOk result (λ new. IsAddedBetween pattern.now kind from.now to.now new) }
     ensures zero_length { IsErrOf result StoreFault.ZeroLength ↔ (HasMemory result × (from.now ≡ to.now)) }
     ensures bad_direction { IsErrOf result StoreFault.BadDirection
-        ↔ (HasMemory result × HaveNoDirection from.now to.now) }
+        ↔ (HasMemory result × HaveBadDirection from.now to.now) }
     ensures edge_off_border { IsErrOf result StoreFault.EdgeOffBorder
         ↔ (HasMemory result × IsEdgeOffBorder pattern.now kind from.now to.now) }
     ensures outside_sheet { IsErrOf result StoreFault.OutsideSheet

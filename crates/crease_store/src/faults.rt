@@ -3,6 +3,8 @@
 ghost use Rattle.std.specs.Prelude.{◌≡◌};
 ghost use Rattle.crease_store.specs.Answer.{refusal_of};
 
+use line_split::SplitFault;
+use plane_geometry::SegmentFault;
 use std::alloc::AllocError;
 use thiserror::Error;
 
@@ -50,6 +52,32 @@ impl From<AllocError> for StoreFault {
 
     fn from(_e: AllocError) -> StoreFault {
         StoreFault::Memory
+    }
+}
+
+impl From<SegmentFault> for StoreFault {
+    ghost use Rattle.crease_store.specs.Faults.{segment_fault};
+
+    ghost from_gives = { λ cause e. e ≡ segment_fault cause };
+
+    fn from(cause: SegmentFault) -> StoreFault {
+        match cause {
+            SegmentFault::ZeroLength => StoreFault::ZeroLength,
+            SegmentFault::BadDirection => StoreFault::BadDirection,
+        }
+    }
+}
+
+impl From<SplitFault> for StoreFault {
+    ghost use Rattle.crease_store.specs.Faults.{split_fault};
+
+    ghost from_gives = { λ cause e. e ≡ split_fault cause };
+
+    fn from(cause: SplitFault) -> StoreFault {
+        match cause {
+            SplitFault::OutOfRange { piece } => StoreFault::Crossing { piece },
+            SplitFault::Memory => StoreFault::Memory,
+        }
     }
 }
 

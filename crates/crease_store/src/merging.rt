@@ -7,14 +7,14 @@ ghost use Rattle.crease_model.specs.declared.Piece.{Piece};
 ghost use Rattle.crease_store.specs.Merged.{begins_at, arrives_at, only_from, only_to, is_alike, are_alike};
 ghost use Rattle.crease_store.specs.Merged.{is_loose, next_piece, last_piece, joined_to, merged_from};
 ghost use Rattle.crease_store.specs.Merged.{merged_among, merge_of, IsMerged};
-ghost use Rattle.crease_model.specs.Rules.{IsPattern, is_ascending, segments_of};
+ghost use Rattle.crease_model.specs.Rules.{IsPattern, AllMeetAtEnds, is_ascending, segments_of};
 ghost use Rattle.crease_store.specs.Rising.{beginning_of, arrival_of, is_sorted_by, first_passes};
 ghost use Rattle.crease_store.specs.Rising.{first_alone, AreSorted};
 ghost use Rattle.crease_store.specs.Added.{covers};
 ghost use Rattle.crease_store.specs.Answer.{IsAnswer};
 
 use crate::faults::StoreFault;
-use crate::placing::place;
+use crate::placing::place_pieces;
 use crease_model::{Pattern, Piece};
 use plane_geometry::{Point, Segment};
 use std::alloc::{AllocError, Global};
@@ -186,22 +186,20 @@ fn arrivals_of(alloc: Global, pieces: &[Piece]) -> Result<Vec<Piece>, AllocError
     Ok(arrivals)
 }
 
-// From the last piece to the first, so that each chain goes near the front.
+// The chains in the order of their first pieces; they are sorted once.
 fn merged_pieces(alloc: Global, pieces: &[Piece]) -> Result<Vec<Piece>, AllocError>
-    requires { IsTrue (is_ascending (segments_of pieces.now)) }
+    requires up { IsTrue (is_ascending (segments_of pieces.now)) }
+    requires meetings { AllMeetAtEnds pieces.now }
     ensures { IfOk result (λ merged. merged.items ≡ merged_among pieces.now pieces.now) }
 {
     let arrivals = arrivals_of(alloc, pieces)?;
-    let mut merged = Vec::with_capacity(alloc, pieces.len())?;
-    let mut i = pieces.len();
-    while i > 0 {
-        i -= 1;
-        let piece = &pieces[i];
+    let mut chains = Vec::with_capacity(alloc, pieces.len())?;
+    for piece in pieces {
         if !loose(pieces, &arrivals, piece.segment.from()) {
-            place(&mut merged, &merged_from(pieces, &arrivals, piece))?;
+            chains.push(merged_from(pieces, &arrivals, piece))?;
         }
     }
-    Ok(merged)
+    place_pieces(alloc, &[], chains)
 }
 
 #[tactic(auto, unfolding(crate::specs::Merged::merge_of))]

@@ -98,7 +98,7 @@ fn merged_in(alloc: Global, pieces: &[Piece], news: &[Piece]) -> Result<Vec<Piec
     requires news { IsTrue (never_descends news.now) }
     ensures { IfOk result (λ all. all.items ≡ with_all_in_order segment_at pieces.now news.now) }
 {
-    let mut all = Vec::with_capacity(alloc, pieces.len())?;
+    let mut all = Vec::with_capacity(alloc, pieces.len() + news.len())?;
     let mut rest = pieces;
     for (i, new) in news.iter().enumerate() {
         rest = put_in(&mut all, rest, new, &news[i + 1..])?;

@@ -1,16 +1,6 @@
-use Rattle.std.proofs.Common.{◌≡◌, ◌≤◌, drop, length}
-use Rattle.std.specs.Prelude.{IsTrue}
-use Rattle.crease_model.specs.Rules.{is_ascending, segments_of}
-use Rattle.crease_store.specs.Merged.{merged_among}
+use Rattle.std.proofs.Common.{◌≡◌, ◌++◌, drop}
+use Rattle.crease_store.proofs.MergedOnce.{chains_among}
 use Rattle.crease_store.proofs.merging.merged_pieces.Given as goal
 
-abbrev pub invariant-loop-i : goal.invariant-loop-i
-invariant-loop-i l =
-    record {
-      bound : l.i ≤ length l.pieces;
-      rest : l.merged.items ≡ merged_among l.pieces (drop l.i l.pieces);
-      up : IsTrue (is_ascending (segments_of l.merged.items));
-    }
-
-abbrev pub decreases-loop-i : goal.decreases-loop-i
-decreases-loop-i l = l.i
+abbrev pub invariant-loop-piece : goal.invariant-loop-piece
+invariant-loop-piece l = l.chains.items ++ chains_among l.pieces (drop l.piece-index l.pieces) ≡ chains_among l.pieces l.pieces
