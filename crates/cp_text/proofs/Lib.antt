@@ -8,6 +8,7 @@ pub mod LowestTerms
 pub mod PrintedNumbers
 pub mod Grammar
 pub mod PrintedLines
+pub mod PatternTexts
 pub mod PartedText
 pub mod ShortestNumbers
 pub mod WholeNumbers

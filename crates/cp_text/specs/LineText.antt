@@ -3,13 +3,10 @@ use Rattle.std.specs.Prelude.{ℕ, List, [], ◌∷◌, ◌++◌, map, flat_map,
 use Rattle.surd_number.specs.declared.Surd.{Surd}
 use Rattle.surd_number.specs.Value.{number_of}
 use Rattle.plane_geometry.specs.declared.Point.{Point}
-use Rattle.plane_geometry.specs.declared.Segment.{Segment}
-use Rattle.plane_geometry.specs.Polygon.{Side, sides_of}
 use Rattle.crease_model.specs.declared.Kind.{Kind}
 use Rattle.crease_model.specs.declared.Kind.TheVariants.{Edge, Mountain, Valley, Aux}
-use Rattle.crease_model.specs.declared.Piece.{Piece}
 use Rattle.crease_model.specs.View.{PatternView}
-use Rattle.crease_model.specs.OwnLines.{PlainLine, side_line, segment_line, piece_line, auxiliary_line}
+use Rattle.crease_model.specs.OwnLines.{PlainLine, own_lines}
 use Rattle.cp_text.specs.declared.line.CpLine.{CpLine}
 use Rattle.cp_text.specs.NumberText.{number_text}
 
@@ -46,22 +43,9 @@ line_between kind from to = record { kind = kind; from = from; to = to }
 abbrev pub crease_line : PlainLine → CpLine
 crease_line line = line_between line.kind line.from line.to
 
-abbrev pub line_of_side : Side → CpLine
-line_of_side side = crease_line (side_line side)
-
-abbrev pub line_of_segment : Kind → Segment → CpLine
-line_of_segment kind s = crease_line (segment_line kind s)
-
-abbrev pub line_of_piece : Piece → CpLine
-line_of_piece p = crease_line (piece_line p)
-
-abbrev pub line_of_auxiliary : Segment → CpLine
-line_of_auxiliary s = crease_line (auxiliary_line s)
-
--- the sides of the sheet, the pieces and the auxiliary lines, each in order
+-- the sides of the sheet as edges, the pieces and the auxiliary lines, each in order
 abbrev pub pattern_lines : PatternView → List CpLine
-pattern_lines p = map line_of_side (sides_of p.corners) ++ map line_of_piece p.pieces
-    ++ map line_of_auxiliary p.aux
+pattern_lines p = map crease_line (own_lines p)
 
 abbrev pub lines_text : List CpLine → List ℕ
 lines_text lines = flat_map line_text lines

@@ -12,7 +12,7 @@ mod whole_reading;
 mod words;
 mod writing;
 
-pub use appending::all_or_nothing;
+pub use appending::{all_or_nothing, append_number};
 pub use laws::{
     lines_end_at_feeds, lines_read_back, numbers_are_shortest, numbers_read_back,
     patterns_are_parted_by_lines, patterns_read_back, reads_by_the_grammar, reads_the_value,

@@ -7,8 +7,7 @@ ghost use Rattle.cp_text.specs.ShortestText.{IsShortestText};
 ghost use Rattle.cp_text.specs.Growth.{KeepsFront};
 ghost use Rattle.surd_number.specs.Value.{number_of};
 
-use crate::appending::all_or_nothing;
-use itoa::Buffer;
+use crate::appending::{all_or_nothing, append_number};
 use std::alloc::AllocError;
 use surd_number::Surd;
 
@@ -77,7 +76,7 @@ fn put_magnitude(out: &mut Vec<u8>, n: u64, places: u8) -> Result<(), AllocError
     ensures err { OnErr result (KeepsFront out.old.items out.new.items) }
 {
     let whole = 1u64 << places;
-    out.extend_from_slice(Buffer::new().format(n / whole).as_bytes())?;
+    append_number(out, n / whole)?;
     put_fraction(out, n % whole, places)
 }
 

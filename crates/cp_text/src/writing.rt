@@ -3,7 +3,9 @@
 ghost use Rattle.std.specs.Prelude.{◌≡◌, ◌++◌, ◌∷◌, OnOk, OnErr, map};
 ghost use Rattle.surd_number.specs.Value.{number_of};
 ghost use Rattle.plane_geometry.specs.Polygon.{sides_of};
-ghost use Rattle.cp_text.specs.LineText.{kind_digit, coordinate_text, point_text, bare_point_text, line_body, line_text, line_of_side, line_of_segment, line_of_piece, line_of_auxiliary, lines_text, pattern_lines, pattern_text};
+ghost use Rattle.crease_model.specs.OwnLines.{side_line, segment_line, piece_line, auxiliary_line};
+ghost use Rattle.cp_text.specs.LineText.{kind_digit, coordinate_text, point_text, bare_point_text, line_body};
+ghost use Rattle.cp_text.specs.LineText.{line_text, crease_line, lines_text, pattern_text};
 ghost use Rattle.cp_text.specs.Growth.{KeepsFront};
 
 use crate::appending::all_or_nothing;
@@ -98,7 +100,7 @@ pub fn write_line(out: &mut Vec<u8>, line: &CpLine) -> Result<(), AllocError>
 #[tactic(auto, using(crate::proofs::Fronts::fronts))]
 fn put_sides(out: &mut Vec<u8>, corners: &[Point]) -> Result<(), AllocError>
     ensures ok { OnOk result
-        (out.new.items ≡ out.old.items ++ lines_text (map line_of_side (sides_of corners.now))) }
+        (out.new.items ≡ out.old.items ++ lines_text (map crease_line (map side_line (sides_of corners.now)))) }
     ensures err { OnErr result (KeepsFront out.old.items out.new.items) }
 {
     for (i, from) in corners.iter().enumerate() {
@@ -113,7 +115,7 @@ fn put_sides(out: &mut Vec<u8>, corners: &[Point]) -> Result<(), AllocError>
 }
 
 fn put_segment(out: &mut Vec<u8>, kind: Kind, segment: &Segment) -> Result<(), AllocError>
-    ensures ok { OnOk result (out.new.items ≡ out.old.items ++ line_text (line_of_segment kind segment.now)) }
+    ensures ok { OnOk result (out.new.items ≡ out.old.items ++ line_text (crease_line (segment_line kind segment.now))) }
     ensures err { OnErr result (KeepsFront out.old.items out.new.items) }
 {
     let line = CpLine {
@@ -126,7 +128,8 @@ fn put_segment(out: &mut Vec<u8>, kind: Kind, segment: &Segment) -> Result<(), A
 
 #[tactic(auto, using(crate::proofs::Fronts::fronts))]
 fn put_pieces(out: &mut Vec<u8>, pieces: &[Piece]) -> Result<(), AllocError>
-    ensures ok { OnOk result (out.new.items ≡ out.old.items ++ lines_text (map line_of_piece pieces.now)) }
+    ensures ok { OnOk result
+        (out.new.items ≡ out.old.items ++ lines_text (map crease_line (map piece_line pieces.now))) }
     ensures err { OnErr result (KeepsFront out.old.items out.new.items) }
 {
     for piece in pieces {
@@ -137,7 +140,8 @@ fn put_pieces(out: &mut Vec<u8>, pieces: &[Piece]) -> Result<(), AllocError>
 
 #[tactic(auto, using(crate::proofs::Fronts::fronts))]
 fn put_auxiliary(out: &mut Vec<u8>, lines: &[Segment]) -> Result<(), AllocError>
-    ensures ok { OnOk result (out.new.items ≡ out.old.items ++ lines_text (map line_of_auxiliary lines.now)) }
+    ensures ok { OnOk result
+        (out.new.items ≡ out.old.items ++ lines_text (map crease_line (map auxiliary_line lines.now))) }
     ensures err { OnErr result (KeepsFront out.old.items out.new.items) }
 {
     for line in lines {

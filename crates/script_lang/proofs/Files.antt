@@ -5,6 +5,7 @@ use Rattle.std.specs.Str.{bytes_eq}
 use Rattle.std.proofs.lemmas.Bool.{and_parts, leb-true, le-ltb, false≢true}
 use Rattle.std.proofs.lemmas.List.{append-nil}
 use Rattle.std.proofs.lemmas.Slice.Eq.{bytes_eq-Decides}
+use Rattle.crease_model.specs.OwnLines.{own_lines}
 use Rattle.crease_store.specs.OwnLines.{OwnLinesAreLoaded}
 use Rattle.crease_store.specs.declared.loading.LoadLine.{LoadLine}
 use Rattle.cp_text.specs.declared.line.CpLine.{CpLine}
@@ -20,7 +21,7 @@ use Rattle.script_lang.specs.declared.command.Command.TheVariants.{Load}
 use Rattle.script_lang.specs.Script.{is_only, unless_blank, block_read, lines_before, stop_at, block_command}
 use Rattle.script_lang.specs.Laws.{numbered_lines, FilesAreBlocks, EndIsNoLineOfAFile, PatternFilesComeBack}
 use Rattle.script_lang.proofs.Printed.{loaded}
-use Rattle.script_lang.proofs.Returning.{without_numbers, lines_are_own}
+use Rattle.script_lang.proofs.Returning.{without_numbers, loaded_back}
 use Rattle.script_lang.proofs.Scripts.{blocks_are_one_command}
 
 -- the command of the crease lines so far, and of the lines from this number on
@@ -68,5 +69,5 @@ pattern_files_come_back read parted own p other rules sheet same =
           (ap bare_lines (sym (append-nil (pattern_text p))) ∙ parted p [] ∙ append-nil (map line_body lines))
           ∙ loaded read lines;
       loaded = own p other (numbered_lines 1 lines) rules sheet same
-          (without_numbers 1 lines ∙ lines_are_own p);
+          (without_numbers 1 lines ∙ loaded_back (own_lines p));
     }

@@ -1,7 +1,6 @@
 //! The editing script: commands, replies and refusals, and their texts.
 #![tactic(auto)]
 
-mod appending;
 mod block;
 mod command;
 mod corners;

@@ -4,8 +4,7 @@ ghost use Rattle.std.specs.Prelude.{◌≡◌, ◌++◌, codes, decimal, OnOk, O
 ghost use Rattle.cp_text.specs.Growth.{KeepsFront};
 ghost use Rattle.script_lang.specs.Refusals.{line_refusal, store_refusal, cause_refusal, refusal_word, refusal_point, refusal_number, refusal_cause, point_part, number_part, plain_text, cause_text, refusal_text};
 
-use crate::appending::append_number;
-use cp_text::{LineFault, write_point};
+use cp_text::{LineFault, append_number, write_point};
 use crease_store::StoreRefusal;
 use plane_geometry::{Dir, Point};
 use std::alloc::AllocError;

@@ -4,9 +4,8 @@ ghost use Rattle.std.specs.Prelude.{◌≡◌, ◌++◌, map, codes, decimal, On
 ghost use Rattle.cp_text.specs.Growth.{KeepsFront};
 ghost use Rattle.script_lang.specs.Replies.{sign_byte, signs_text, job_text, head_text};
 
-use crate::appending::append_number;
 use crate::refusal::{Refusal, append_refusal};
-use cp_text::all_or_nothing;
+use cp_text::{all_or_nothing, append_number};
 use sign_rules::{Order, Sign};
 use std::alloc::AllocError;
 

@@ -5,8 +5,7 @@ ghost use Rattle.cp_text.specs.Growth.{KeepsFront};
 ghost use Rattle.vertex_checks.specs.Text.{local_text, vertex_text, fault_text, faults_text};
 
 use crate::faults::{LocalFault, VertexFault};
-use cp_text::{all_or_nothing, write_point};
-use itoa::Buffer;
+use cp_text::{all_or_nothing, append_number, write_point};
 use plane_geometry::Point;
 use std::alloc::AllocError;
 
@@ -16,9 +15,9 @@ fn put_counts(out: &mut Vec<u8>, m: u32, v: u32) -> Result<(), AllocError>
     ensures err { OnErr result (KeepsFront out.old.items out.new.items) }
 {
     out.extend_from_slice(b"maekawa ")?;
-    out.extend_from_slice(Buffer::new().format(m).as_bytes())?;
+    append_number(out, u64::from(m))?;
     out.extend_from_slice(b" ")?;
-    out.extend_from_slice(Buffer::new().format(v).as_bytes())
+    append_number(out, u64::from(v))
 }
 
 fn put_local(out: &mut Vec<u8>, fault: LocalFault) -> Result<(), AllocError>
@@ -30,7 +29,7 @@ fn put_local(out: &mut Vec<u8>, fault: LocalFault) -> Result<(), AllocError>
         LocalFault::Maekawa { m, v } => put_counts(out, m, v),
         LocalFault::BigLittleBig { direction } => {
             out.extend_from_slice(b"biglittlebig ")?;
-            out.extend_from_slice(Buffer::new().format(direction.number()).as_bytes())
+            append_number(out, u64::from(direction.number()))
         }
     }
 }
