@@ -111,7 +111,8 @@ not_opposite s u e =
 
 -- ---- segments at one point
 
--- the segment leaves v in this direction: in its own from its lesser end, in the opposite one from its greater
+-- the segment leaves v in this direction: in its own from its lesser end,
+-- in the opposite one from its greater
 abbrev pub LeavesIn : Point → ℕ → Segment → Type 0
 LeavesIn v n s =
     ((lesser_end s ≡ v) × (n ≡ direction_number s % 16))

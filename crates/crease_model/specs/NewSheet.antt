@@ -56,7 +56,8 @@ first_bad number (bend ∷ bends) = if is_bad bend then Some number else first_b
 abbrev pub turn_fault : ℕ → Option ℕ
 turn_fault turns = if nat_eq turns 16 then None else Some 0
 
--- what keeps the corners from being those of a sheet: the number of the first bad one from 1, or else the turns
+-- what keeps the corners from being those of a sheet: the number of the first bad one from 1,
+-- or else the turns
 abbrev pub sheet_fault : List Point → Option ℕ
 sheet_fault corners =
     option_or (first_bad 1 (bends_of corners)) (turn_fault (sum (map bend_turn (bends_of corners))))

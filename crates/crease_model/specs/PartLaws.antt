@@ -1,4 +1,5 @@
--- Parts of a segment: they are on the sheet where it is, and on a convex sheet they are within one side only where it is.
+-- Parts of a segment: they are on the sheet where it is, and on a convex sheet they are within
+-- one side only where it is.
 use Rattle.std.proofs.Common.{◌≡◌, inl, inr, ℕ, zero, suc, ◌+◌, ◌<◌, Bool, true, false, cond, not, ◌&&◌, ◌||◌, List, [], ◌∷◌, length, map, Option, None, Some, refl, sym, ap, ap₂, ◌∙◌, arith}
 use Rattle.std.specs.Prelude.{nat_le, unwrap_or, is_some}
 use Rattle.std.specs.List.{AllByRecursion, list_all, list_any}
@@ -206,7 +207,8 @@ part_within_one : (sides : List Side) (s u : Segment) → list_any (holds_both_e
     → list_any (holds_both_ends (stretch_of u)) sides ≡ true
 part_within_one [] s u e f = absurd (false≢true e)
 part_within_one (side ∷ sides) s u e f =
-    elim (or_cases (holds_both_ends (stretch_of s) side) (list_any (holds_both_ends (stretch_of s)) sides) e) [
+    elim (or_cases (holds_both_ends (stretch_of s) side)
+    (list_any (holds_both_ends (stretch_of s)) sides) e) [
       | inl l ↦ or_left _ _ (both_within s u (segment_of side.start side.end) f l)
       | inr r ↦ or_right (holds_both_ends (stretch_of u) side) _ (part_within_one sides s u r f)
     ]
@@ -305,7 +307,8 @@ ways_table Pos Neg Pos e f = absurd (true≢false f)
 ways_table Pos Zero t e f = refl
 ways_table Pos Pos t e f = refl
 
--- on the line of x, a point that is not right of a line through c is from c the way that one to the left of it is
+-- on the line of x, a point that is not right of a line through c is from c the way that
+-- one to the left of it is
 one_way : (x : Stretch) (c e v : Position) (n : ℕ) → IsStretch x → side_of x.from x.dir c ≡ Zero
     → side_of x.from x.dir e ≡ Zero → side_of x.from x.dir v ≡ Zero → side_of c n e ≡ Pos
     → is_negative (side_of c n v) ≡ false → is_negative (times_sign (order_of c e) (order_of c v)) ≡ false

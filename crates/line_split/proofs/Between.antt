@@ -34,13 +34,15 @@ compare_positions_total =
     (on_total (λ (p : Position). p.y) compare_of_total)
 
 -- where p comes after q, q comes before p
-pub before_turned : (p q : Point) → compare_positions (position_of p) (position_of q) ≡ Greater → ComesBefore q p
+pub before_turned : (p q : Point) → compare_positions (position_of p) (position_of q) ≡ Greater
+    → ComesBefore q p
 before_turned p q e =
     ap is_lt (compare_positions_total.antisymm (position_of q) (position_of p) ∙ ap ordering_reverse e)
 
 ends_differ : (s : Segment) → s.from ≡ s.to → false ≡ true
 ends_differ s same =
-    sym (before_is (position_of s.from) (position_of s.from) ∙ ap is_positive (order_self (position_of s.from)))
+    sym (before_is (position_of s.from) (position_of s.from)
+    ∙ ap is_positive (order_self (position_of s.from)))
     ∙ ap (λ (v : Point). is_lt (compare_positions (position_of s.from) (position_of v))) same ∙ s.stretch.0
 
 -- there is none where both are one point

@@ -2,7 +2,6 @@ pub mod Points
 pub mod Cuts
 pub mod Parts
 pub mod Answer
-pub mod Laws
 pub mod MemberLaws
 pub mod PointLaws
 pub mod CutLaws

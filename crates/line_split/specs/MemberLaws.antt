@@ -31,7 +31,8 @@ module _ {X : Type 0} where
   all_from_members P [] h = tt
   all_from_members P (x ∷ xs) h = (h x (inl refl), all_from_members P xs (λ z m. h z (inr m)))
 
-  pub any_member : (test : X → Bool) (xs : List X) → list_any test xs ≡ true → (z : X) × Member xs z × (test z ≡ true)
+  pub any_member : (test : X → Bool) (xs : List X) → list_any test xs ≡ true → (z : X) × Member xs z
+      × (test z ≡ true)
   any_member test [] e = absurd (false≢true e)
   any_member test (x ∷ xs) e =
       elim (or_cases (test x) (list_any test xs) e) [
@@ -39,24 +40,34 @@ module _ {X : Type 0} where
         | inr r ↦ (let w = any_member test xs r in (w.0, inr w.1, w.2))
       ]
 
-  pub member_any : (test : X → Bool) (xs : List X) (z : X) → Member xs z → test z ≡ true → list_any test xs ≡ true
+  pub member_any : (test : X → Bool) (xs : List X) (z : X) → Member xs z → test z ≡ true
+      → list_any test xs ≡ true
   member_any test [] z m e = absurd m
   member_any test (x ∷ xs) z (inl at) e = or_left (test x) (list_any test xs) (ap test at ∙ e)
   member_any test (x ∷ xs) z (inr m) e = or_right (test x) (list_any test xs) (member_any test xs z m e)
 
-  pub filter_member : (test : X → Bool) (xs : List X) (z : X) → Member (filter test xs) z → Member xs z × (test z ≡ true)
+  pub filter_member : (test : X → Bool) (xs : List X) (z : X) → Member (filter test xs) z → Member xs z
+      × (test z ≡ true)
   filter_member test [] z = λ m. absurd m
   filter_member test (x ∷ xs) z =
-      cond_both (test x) (x ∷ filter test xs) (filter test xs) (λ ys. Member ys z → Member (x ∷ xs) z × (test z ≡ true))
-      (λ e m. elim m [ inl f ↦ (inl f, subst (λ (t : X). test t ≡ true) f e) | inr n ↦ (let r = filter_member test xs z n in (inr r.0, r.1)) ])
+      cond_both (test x) (x ∷ filter test xs) (filter test xs)
+      (λ ys. Member ys z → Member (x ∷ xs) z × (test z ≡ true))
+      (λ e m. elim m [
+        | inl f ↦ (inl f, subst (λ (t : X). test t ≡ true) f e)
+        | inr n ↦ (let r = filter_member test xs z n in (inr r.0, r.1))
+      ])
       (λ e m. let r = filter_member test xs z m in (inr r.0, r.1))
 
-  pub member_filter : (test : X → Bool) (xs : List X) (z : X) → Member xs z → test z ≡ true → Member (filter test xs) z
+  pub member_filter : (test : X → Bool) (xs : List X) (z : X) → Member xs z → test z ≡ true
+      → Member (filter test xs) z
   member_filter test [] z m e = absurd m
   member_filter test (x ∷ xs) z m e =
       cond_both (test x) (x ∷ filter test xs) (filter test xs) (λ ys. Member ys z)
       (λ f. elim m [ inl g ↦ inl g | inr n ↦ inr (member_filter test xs z n e) ])
-      (λ f. elim m [ inl g ↦ absurd (both_ways (test x) f (ap test g ∙ e)) | inr n ↦ member_filter test xs z n e ])
+      (λ f. elim m [
+        | inl g ↦ absurd (both_ways (test x) f (ap test g ∙ e))
+        | inr n ↦ member_filter test xs z n e
+      ])
 
 -- ---- joined lists
 

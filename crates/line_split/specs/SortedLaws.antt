@@ -139,25 +139,34 @@ rising_sorted (v ∷ vs) up =
     (rising_sorted vs (rising_rest v vs up))
 
 -- points that were sorted, and kept where they differ from the one before
-module _ (points sorted final : List Point) (moved : IsPermutation points sorted) (up : IsSorted compare_points sorted) (kept : IsFiltered (DiffersFromLast equal_points) [] sorted final) where
+module _ (points sorted final : List Point) (moved : IsPermutation points sorted)
+    (up : IsSorted compare_points sorted)
+    (kept : IsFiltered (DiffersFromLast equal_points) [] sorted final) where
   final_is : final ≡ dedup equal_points sorted
   final_is = dedup_is equal_points sorted final kept
 
   final_sorted : IsStrictlySortedBy compare_points final
-  final_sorted = subst (λ vs. IsStrictlySortedBy compare_points vs) (sym final_is) (IsStrictlySortedBy-dedup points_total equal_is sorted up)
+  final_sorted =
+      subst (λ vs. IsStrictlySortedBy compare_points vs) (sym final_is)
+      (IsStrictlySortedBy-dedup points_total equal_is sorted up)
 
   from_final : (z : Point) → Member final z → Member points z
   from_final z m =
-      let there = Contains-from_dedup equal_points sorted z (subst (λ vs. Contains vs z) final_is (contained final z m)) in
+      let there = Contains-from_dedup equal_points sorted z
+      (subst (λ vs. Contains vs z) final_is (contained final z m)) in
       member points z (Contains-permutation sorted points z (IsPermutation-sym points sorted moved) there)
 
   to_final : (z : Point) → Member points z → Member final z
   to_final z m =
       let there = Contains-permutation points sorted z moved (contained points z m) in
-      member final z (subst (λ vs. Contains vs z) (sym final_is) (Contains-dedup equal_equiv equal_point sorted z there))
+      member final z (subst (λ vs. Contains vs z) (sym final_is)
+      (Contains-dedup equal_equiv equal_point sorted z there))
 
   -- they are the ascending list of the same points
-  pub sorted_once : (all : List Point) → is_rising all ≡ true → ((z : Point) → Member points z → Member all z) → ((z : Point) → Member all z → Member points z) → final ≡ all
+  pub sorted_once : (all : List Point) → is_rising all ≡ true → ((z : Point) → Member points z → Member all z)
+      → ((z : Point) → Member all z → Member points z) → final ≡ all
   sorted_once all rises to from =
-      one_sorted compare_points (λ p e. not_before_itself p (order_before p p e)) (λ p q e f. not_before_each_other p q (order_before p q e) (order_before q p f))
-      final all final_sorted (rising_sorted all rises) (λ z m. to z (from_final z m)) (λ z m. to_final z (from z m))
+      one_sorted compare_points (λ p e. not_before_itself p (order_before p p e))
+      (λ p q e f. not_before_each_other p q (order_before p q e) (order_before q p f))
+      final all final_sorted (rising_sorted all rises) (λ z m. to z (from_final z m))
+      (λ z m. to_final z (from z m))

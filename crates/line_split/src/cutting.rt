@@ -1,7 +1,7 @@
 //! The points where a segment is cut.
 
 ghost use Rattle.std.specs.Prelude.{◌≡◌, ◌≢◌, ◌↔◌, ◌<◌, ◌∷◌, ◌++◌, [], ℕ, Some, Ok, Err, length};
-ghost use Rattle.std.specs.Prelude.{IfOk, OnOk, IsErrOf, IsTrue, MatchResult};
+ghost use Rattle.std.specs.Prelude.{IfOk, OnOk, OnErr, IsErrOf, IsTrue, MatchResult};
 ghost use Rattle.plane_geometry.specs.Position.{Position};
 ghost use Rattle.plane_geometry.specs.SegmentView.{stretch_of};
 ghost use Rattle.plane_geometry.specs.Stretch.{is_touching};
@@ -45,7 +45,8 @@ pub struct Cutting {
 
 // Gathers a point.
 fn gather(points: &mut Vec<Point>, v: &Point) -> Result<(), AllocError>
-    ensures { OnOk result (in_order points.new.items ≡ with_point (in_order points.old.items) v.now) }
+    ensures ok { OnOk result (in_order points.new.items ≡ with_point (in_order points.old.items) v.now) }
+    ensures err { OnErr result (points.new.items ≡ points.old.items) }
 {
     points.push(*v)?;
     Ok(())
@@ -53,8 +54,9 @@ fn gather(points: &mut Vec<Point>, v: &Point) -> Result<(), AllocError>
 
 // Gathers a point, if it is on the segment.
 fn gather_on(points: &mut Vec<Point>, s: &Segment, v: &Point) -> Result<(), AllocError>
-    ensures { OnOk result (in_order points.new.items
+    ensures ok { OnOk result (in_order points.new.items
         ≡ with_point_on (stretch_of s.now) (in_order points.old.items) v.now) }
+    ensures err { OnErr result (points.new.items ≡ points.old.items) }
 {
     if on_segment(v, s) {
         gather(points, v)?;
@@ -66,9 +68,10 @@ fn gather_on(points: &mut Vec<Point>, s: &Segment, v: &Point) -> Result<(), Allo
 // where it is not of two Surds.
 fn gather_common(points: &mut Vec<Point>, s: &Segment, u: &Segment) -> Result<bool, AllocError>
     requires { IsTrue (is_touching (stretch_of s.now) (stretch_of u.now)) }
-    ensures { IfOk result
+    ensures ok { IfOk result
         (λ found. with_meeting (stretch_of s.now) (in_order points.old.items) (stretch_of u.now)
         ≡ some_if found (in_order points.new.items)) }
+    ensures err { OnErr result (points.new.items ≡ points.old.items) }
 {
     if parallel(s, u) {
         return Ok(true);

@@ -8,7 +8,7 @@ use Rattle.plane_geometry.specs.Stretch.{is_on}
 use Rattle.crease_model.specs.declared.Piece.{Piece}
 use Rattle.line_split.specs.Parts.{parts_of, IsPart}
 use Rattle.line_split.proofs.Between.{lesser_on, greater_on}
-use Rattle.line_split.proofs.SplitLaws.{parts_are_exact}
+use Rattle.line_split.proofs.SplitLaws.{parts_found}
 use Rattle.line_split.proofs.parting.cut_at.Goals as goal
 
 pub loop-point-init : goal.loop-point-init
@@ -24,7 +24,8 @@ loop-point-init c =
 pub push_part-requires-2-clause-end : goal.push_part-requires-2-clause-end
 push_part-requires-2-clause-end c =
     let piece = c.args.piece.now in
-    ap (λ (v : Point). is_on (position_of v) (stretch_of piece.segment)) c.to.ensures ∙ greater_on piece.segment
+    ap (λ (v : Point). is_on (position_of v) (stretch_of piece.segment)) c.to.ensures
+    ∙ greater_on piece.segment
 
 pub returns-clause-parts : goal.returns-clause-parts
 unfolding parts_of
@@ -33,4 +34,5 @@ returns-clause-parts c =
     let piece = c.args.piece.now in
     let points = c.args.points.now in
     let exact : c.push_part-2.new.parts.items ≡ parts_of piece points = grind (arith, common_steps) in
-    subst (λ (ps : List Piece). Contains ps q ↔ IsPart piece points q) (sym exact) (parts_are_exact piece points up q)
+    subst (λ (ps : List Piece). Contains ps q ↔ IsPart piece points q) (sym exact)
+    (parts_found piece points up q)
