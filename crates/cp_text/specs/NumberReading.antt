@@ -3,6 +3,7 @@ use Rattle.std.specs.Prelude.{ℕ, ◌+◌, ◌-◌, ◌*◌, ◌/◌, ◌%◌, 
 use Rattle.surd_number.specs.declared.Surd.{Surd}
 use Rattle.surd_number.specs.Exact.{surd_of}
 use Rattle.cp_text.specs.declared.number_reading.NumberFault.{NumberFault}
+use Rattle.cp_text.specs.declared.number_reading.Part.{Part}
 use Rattle.cp_text.specs.declared.number_reading.NumberFault.TheVariants.{Bad, NotExact, OutOfRange}
 use Rattle.cp_text.specs.Digits.{digits_value, without_zeros}
 use Rattle.cp_text.specs.NumberWord.{SignedDecimal, NumberWord, Rational, Root, Both, number_word, is_exponential}
@@ -16,6 +17,10 @@ exact_parts digits =
 -- zeros at the end do not count
 abbrev pub fraction_parts : List ℕ → Option ℕ
 fraction_parts digits = exact_parts (without_zeros digits)
+
+-- the decimal that was scanned with its sign
+abbrev pub decimal_of : Part → SignedDecimal
+decimal_of part = record { negative = part.negative; whole = part.whole.now; fraction = part.fraction.now }
 
 abbrev pub signed : Bool → ℕ → ℤ
 signed true n = neg_ℤ (pos n)

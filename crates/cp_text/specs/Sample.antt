@@ -26,7 +26,8 @@ kind_at k = if k % 2 == 1 then Mountain else Valley
 -- from side to side at this place
 abbrev pub line_across : Kind → Surd → CpLine
 line_across kind x =
-    line_between kind (record { x = x; y = whole_surd (negsuc 199) }) (record { x = x; y = whole_surd (pos 200) })
+    line_between kind (record { x = x; y = whole_surd (negsuc 199) })
+    (record { x = x; y = whole_surd (pos 200) })
 
 -- the crease at the end of the k-th of 2^n strips
 abbrev pub sample_line : ℕ → ℕ → CpLine

@@ -3,7 +3,7 @@
 ghost use Rattle.std.specs.Prelude.{◌≡◌, ◌+◌, ◌*◌, ◌-◌, ◌^◌, ◌<◌, ◌≤◌, List, take, drop, length, min, IsTrue, IfSome, MatchOption, option_map};
 ghost use Rattle.cp_text.specs.Digits.{is_digit, is_digits, digits_value, leading_digits, behind_digits, without_zeros};
 ghost use Rattle.cp_text.specs.NumberWord.{with_fraction, behind_whole, with_whole, decimal_at, Rational, Root, Both, is_root_mark, second_part, behind_first, has_minus, behind_minus, is_power, is_power_mark};
-ghost use Rattle.cp_text.specs.NumberReading.{exact_parts, fraction_parts, signed, bounded, decimal_parts, surd_answer, parts_read, word_value, word_read, number_read};
+ghost use Rattle.cp_text.specs.NumberReading.{decimal_of, exact_parts, fraction_parts, signed, bounded, decimal_parts, surd_answer, parts_read, word_value, word_read, number_read};
 ghost use Rattle.surd_number.specs.Exact.{surd_of};
 
 use surd_number::{OutOfRange, Surd};
@@ -207,12 +207,7 @@ fn with_sign(negative: bool, n: u64) -> i64
 
 #[tactic(auto, using(crate::proofs::Bounds::signed_bounded))]
 fn read_part(part: &Part<'_>) -> Option<i64>
-    ensures { result ≡ option_map bounded
-        (decimal_parts (record {
-          negative = part.now.negative;
-          whole = part.now.whole.now;
-          fraction = part.now.fraction.now;
-        })) }
+    ensures { result ≡ option_map bounded (decimal_parts (decimal_of part.now)) }
 {
     match read_fraction(part.fraction) {
         Some(parts) => Some(with_sign(part.negative, bounded_parts(part.whole, parts))),
@@ -235,25 +230,21 @@ fn read_sum(a: Option<i64>, b: Option<i64>) -> Result<Surd, NumberFault>
 
 #[tactic(auto, using(crate::proofs::Bounds::rational_bounded))]
 fn read_rational(part: &Part<'_>) -> Result<Surd, NumberFault>
-    ensures { result ≡ word_value (Rational
-        (record { negative = part.now.negative; whole = part.now.whole.now; fraction = part.now.fraction.now })) }
+    ensures { result ≡ word_value (Rational (decimal_of part.now)) }
 {
     read_sum(read_part(part), Some(0))
 }
 
 #[tactic(auto, using(crate::proofs::Bounds::root_bounded))]
 fn read_root(part: &Part<'_>) -> Result<Surd, NumberFault>
-    ensures { result ≡ word_value (Root
-        (record { negative = part.now.negative; whole = part.now.whole.now; fraction = part.now.fraction.now })) }
+    ensures { result ≡ word_value (Root (decimal_of part.now)) }
 {
     read_sum(Some(0), read_part(part))
 }
 
 #[tactic(auto, using(crate::proofs::Bounds::parts_read_bounded))]
 fn read_both(first: &Part<'_>, second: &Part<'_>) -> Result<Surd, NumberFault>
-    ensures { result ≡ word_value (Both
-        (record { negative = first.now.negative; whole = first.now.whole.now; fraction = first.now.fraction.now })
-        (record { negative = second.now.negative; whole = second.now.whole.now; fraction = second.now.fraction.now })) }
+    ensures { result ≡ word_value (Both (decimal_of first.now) (decimal_of second.now)) }
 {
     read_sum(read_part(first), read_part(second))
 }
@@ -266,9 +257,7 @@ fn is_root_mark(text: &[u8]) -> bool
 
 // The second decimal and `r2`.
 fn read_second(first: &Part<'_>, negative: bool, text: &[u8]) -> Result<Surd, NumberFault>
-    ensures { result ≡ word_read (second_part
-        (record { negative = first.now.negative; whole = first.now.whole.now; fraction = first.now.fraction.now })
-        negative (decimal_at text.now)) }
+    ensures { result ≡ word_read (second_part (decimal_of first.now) negative (decimal_at text.now)) }
 {
     match scan_decimal(text) {
         Some(scan) => {
@@ -288,8 +277,7 @@ fn read_second(first: &Part<'_>, negative: bool, text: &[u8]) -> Result<Surd, Nu
 
 // What stands behind the first decimal.
 fn read_behind(first: &Part<'_>, text: &[u8]) -> Result<Surd, NumberFault>
-    ensures { result ≡ word_read (behind_first
-        (record { negative = first.now.negative; whole = first.now.whole.now; fraction = first.now.fraction.now }) text.now) }
+    ensures { result ≡ word_read (behind_first (decimal_of first.now) text.now) }
 {
     if text.is_empty() {
         return read_rational(first);

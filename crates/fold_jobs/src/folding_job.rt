@@ -1,4 +1,5 @@
 ghost use Rattle.std.specs.Prelude.{◌≡◌, ◌<◌, IsSome};
+ghost use Rattle.fold_jobs.specs.Limits.{most_asks};
 ghost use Rattle.fold_jobs.specs.Machine.{answer_told, answered};
 ghost use Rattle.worker_split.specs.Job.{next_answer};
 
@@ -40,7 +41,7 @@ impl FoldingJob {
     /// What the open ask came to. An order that is shown is counted.
     pub(crate) fn answer(&mut self) -> FoldAnswer
         requires asked { IsSome self.old.state.ask }
-        requires few { self.old.shown < 10000 }
+        requires few { self.old.shown < most_asks }
         ensures answer { result
             ≡ answer_told self.old.state.version self.old.shown (next_answer self.old.state) }
         ensures state { self.new ≡ answered result self.old }

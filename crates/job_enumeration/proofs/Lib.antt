@@ -1,3 +1,4 @@
+pub mod Growth
 pub mod Parted
 pub mod Steps
 pub mod Kept

@@ -1,5 +1,4 @@
 pub mod Record
-pub mod RecordLaws
 pub mod Closings
 pub mod Enumeration
 pub mod Laws

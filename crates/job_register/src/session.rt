@@ -77,7 +77,7 @@ impl Record {
 pub struct Session {
     journal: Journal,
     jobs: Jobs,
-    record: Record,
+    events: Record,
     refused: bool,
     // of the current version, after a command that asked for them
     faults: Option<Vec<VertexFault>>,
@@ -90,12 +90,12 @@ impl Model for Session {
     ghost Value = { SessionView };
 
     ghost view = { λ s. record {
-      events = events_of s.record;
+      events = events_of s.events;
       state = record { journal = s.journal; jobs = s.jobs };
     } };
 
     ghost invariant = { λ s.
-        IsSession (record { journal = s.journal; jobs = s.jobs }) s.refused s.faults (events_of s.record) };
+        IsSession (record { journal = s.journal; jobs = s.jobs }) s.refused s.faults (events_of s.events) };
 }
 
 impl Session {
@@ -123,7 +123,7 @@ impl Session {
         Ok(Session {
             journal,
             jobs: Jobs::new(alloc, most),
-            record: Record::new(alloc),
+            events: Record::new(alloc),
             refused: false,
             faults: None,
         })
@@ -156,7 +156,7 @@ impl Session {
         ensures err { OnErr result (self.new ≡ self.old) }
     {
         right_outcomes_stay();
-        self.record.list.reserve(1)?;
+        self.events.list.reserve(1)?;
         let reply = answer_command(
             rt,
             alloc,
@@ -166,7 +166,7 @@ impl Session {
             &command,
         )?;
         self.refused = refused_after(self.refused, &reply);
-        self.record
+        self.events
             .list
             .push(Event::Made { command, reply })
             .unwrap();
@@ -198,11 +198,11 @@ impl Session {
         ensures err { OnErr result (self.new ≡ self.old) }
     {
         right_outcomes_stay();
-        self.record.list.reserve(1)?;
+        self.events.list.reserve(1)?;
         let kept = outcome.copy()?;
         let taken = self.jobs.post(kept.copy()?);
         let accepted = was_accepted(&taken);
-        self.record
+        self.events
             .list
             .push(Event::Posted {
                 outcome: kept,
@@ -239,7 +239,7 @@ impl Session {
         ensures ok { OnOk result (out.new.items ≡ out.old.items ++ last_text self.now.events) }
         ensures err { OnErr result (out.new.items ≡ out.old.items) }
     {
-        match self.record.list.as_slice().last() {
+        match self.events.list.as_slice().last() {
             Some(Event::Made { reply, .. }) => self.write_reply(out, reply),
             Some(Event::Posted { .. }) | None => Ok(()),
         }
@@ -312,7 +312,7 @@ impl Session {
         ensures enumeration { EnumeratesOrders self.now.state.jobs.most self.now.events }
     {
         records_enumerate();
-        &self.record
+        &self.events
     }
 
     /// The whole record.
@@ -322,6 +322,6 @@ impl Session {
         ensures enumeration { EnumeratesOrders self.state.jobs.most self.events }
     {
         records_enumerate();
-        self.record
+        self.events
     }
 }

@@ -189,10 +189,8 @@ fn rules_on(alloc: Global, pairs: usize, rules: Vec<Rule>) -> Result<Arc<Rules>,
         return Err(AllocError);
     }
     let rules = Rules::new(alloc, pairs as u32, rules)?;
-    match Arc::new(alloc, rules) {
-        Ok(rules) => Ok(rules),
-        Err(fault) => Err(AllocError::from(fault)),
-    }
+    let rules = Arc::new(alloc, rules)?;
+    Ok(rules)
 }
 
 /// The folded shape of a pattern, or why it has none.

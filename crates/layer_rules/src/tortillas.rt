@@ -56,8 +56,8 @@ fn push_tortillas(
     requires pairs { IsPairList folded.now pairs.now }
     requires few { length pairs.now ≤ most_pairs }
     ensures { OnOk result (MakesRules (length pairs.now)
-        (ForSomeBelow (λ n. BreaksTacoTortillaAt folded.now pairs.now crease.now (n + 1)) (length folded.now.faces))
-        rules.old.items rules.new.items) }
+        (ForSomeBelow (λ n. BreaksTacoTortillaAt folded.now pairs.now crease.now (n + 1))
+        (length folded.now.faces)) rules.old.items rules.new.items) }
 {
     for u in 0..insides.len() {
         push_rule(rules, tortilla(insides, pairs, crease, u))?;

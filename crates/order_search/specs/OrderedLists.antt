@@ -14,4 +14,5 @@ pub record AreInOrder (IsOne : List Sign → Type 0) (list : List (List Sign)) :
 -- the orders of rules are the lists with a sign for each pair that break none of them
 abbrev pub OrdersAreInOrder : Type 0
 OrdersAreInOrder =
-    (r : RulesView) → AreInOrder (λ signs. (length signs ≡ r.pairs) × IsTrue (is_consistent r signs)) (orders r)
+    (r : RulesView)
+    → AreInOrder (λ signs. (length signs ≡ r.pairs) × IsTrue (is_consistent r signs)) (orders r)

@@ -171,10 +171,8 @@ fn read_alone(words: &[u8], least: u64, most: u64) -> Result<u64, LineFault>
 fn read_job(words: &[u8]) -> Result<u32, LineFault>
     ensures { result ≡ job_read (words_of words.now) }
 {
-    match read_alone(words, 0, MOST_JOB) {
-        Ok(job) => Ok(job as u32),
-        Err(fault) => Err(fault),
-    }
+    let job = read_alone(words, 0, MOST_JOB)?;
+    Ok(job as u32)
 }
 
 fn judge_another(words: &[u8]) -> Command

@@ -11,8 +11,7 @@ use Rattle.sign_rules.specs.declared.sign.Sign.{Sign}
 use Rattle.sign_rules.specs.declared.sign.Sign.TheVariants.{Over}
 use Rattle.sign_rules.specs.declared.rule.Rule.{Rule}
 use Rattle.sign_rules.specs.declared.rule.Rule.TheVariants.{Fixed}
-use Rattle.sign_rules.specs.Rule.{is_met, is_rule_on}
-use Rattle.sign_rules.specs.RuleLaws.{last_pair}
+use Rattle.sign_rules.specs.Rule.{is_met, is_rule_on, last_pair}
 use Rattle.sign_rules.specs.RuleIndex.{IsLatest, IsIndex}
 use Rattle.sign_rules.specs.Rules.{RulesView, is_consistent, is_broken, is_broken_at_last, is_decided, are_rules_on}
 use Rattle.sign_rules.specs.ConsistencyLaws.{decided-last, decided-from_last, not_decided-from_last, consistent-step}

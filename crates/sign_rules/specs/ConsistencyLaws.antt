@@ -9,8 +9,7 @@ use Rattle.sign_rules.specs.declared.sign.Sign.{Sign}
 use Rattle.sign_rules.specs.declared.rule.Rule.{Rule}
 use Rattle.sign_rules.specs.declared.rule.Rule.TheVariants.{Fixed, Equal, Even, NotCyclic}
 use Rattle.sign_rules.specs.Signs.{over_at}
-use Rattle.sign_rules.specs.Rule.{is_met}
-use Rattle.sign_rules.specs.RuleLaws.{last_pair}
+use Rattle.sign_rules.specs.Rule.{is_met, last_pair}
 use Rattle.sign_rules.specs.Rules.{RulesView, is_decided, is_broken, is_broken_at_last, is_consistent}
 
 -- a list decides a rule where it has a sign for its greatest pair

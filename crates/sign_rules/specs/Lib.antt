@@ -1,7 +1,6 @@
 pub mod Signs
 pub mod Rule
 pub mod Rules
-pub mod RuleLaws
 pub mod RuleIndex
 pub mod ConsistencyLaws
 pub mod Laws

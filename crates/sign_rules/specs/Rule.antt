@@ -1,5 +1,5 @@
 -- Rules on the signs of two, three or four pairs, or of one.
-use Rattle.std.specs.Prelude.{ℕ, ◌%◌, ◌==◌, Bool, true, false, not, ◌&&◌, List, [], ◌∷◌, nat_lt, count_by}
+use Rattle.std.specs.Prelude.{ℕ, ◌%◌, ◌==◌, Bool, true, false, not, ◌&&◌, List, [], ◌∷◌, nat_lt, max, count_by}
 use Rattle.std.specs.List.{list_all, list_any}
 use Rattle.sign_rules.specs.declared.sign.Sign.{Sign}
 use Rattle.sign_rules.specs.declared.rule.Rule.{Rule}
@@ -12,6 +12,13 @@ pairs_of (Fixed p _) = p ∷ []
 pairs_of (Equal p q _) = p ∷ q ∷ []
 pairs_of (Even p q r s _) = p ∷ q ∷ r ∷ s ∷ []
 pairs_of (NotCyclic ij jk ik) = ij ∷ jk ∷ ik ∷ []
+
+-- the greatest pair that a rule names, whose sign decides it
+abbrev pub last_pair : Rule → ℕ
+last_pair (Fixed p _) = p
+last_pair (Equal p q _) = max p q
+last_pair (Even p q r s _) = max (max p q) (max r s)
+last_pair (NotCyclic ij jk ik) = max (max ij jk) ik
 
 -- whether two tests have one answer
 abbrev pub is_same : Bool → Bool → Bool

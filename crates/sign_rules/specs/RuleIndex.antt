@@ -2,7 +2,7 @@
 use Rattle.std.specs.Prelude.{◌≡◌, ◌≢◌, ℕ, ◌-◌, ◌<◌, ◌≤◌, List, length, slice_index}
 use Rattle.std.specs.List.{slice_index_or}
 use Rattle.sign_rules.specs.declared.rule.Rule.{Rule}
-use Rattle.sign_rules.specs.RuleLaws.{last_pair}
+use Rattle.sign_rules.specs.Rule.{last_pair}
 
 -- one more than the place of the last rule before place `end` whose greatest pair is this one, or 0 where there is none
 pub record IsLatest (rules : List Rule) (pair end latest : ℕ) : Type 0 where

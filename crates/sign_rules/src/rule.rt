@@ -1,8 +1,7 @@
 ghost use Rattle.std.specs.Prelude.{◌≡◌, ◌+◌, ◌<◌, ◌≤◌, length, IsTrue, ◌↔◌};
 ghost use Rattle.sign_rules.specs.Signs.{over_at};
-ghost use Rattle.sign_rules.specs.Rule.{is_met};
+ghost use Rattle.sign_rules.specs.Rule.{is_met, last_pair};
 ghost use Rattle.sign_rules.specs.Rules.{is_decided, is_broken};
-ghost use Rattle.sign_rules.specs.RuleLaws.{last_pair};
 
 use crate::sign::Sign;
 

@@ -8,4 +8,5 @@ use Rattle.task_board.specs.declared.helpers.Obtained.TheVariants.{Posted, Yours
 -- stands at its last value
 abbrev pub IsObtained : {W T O S : Type 0} → (O → Type 0) → Obtained W T O S → T → ℕ → ℕ → Type 0
 IsObtained right (Posted outcome) task before now = ∥ right outcome ∥₁
-IsObtained right (Yours mine) task before now = (arc_value mine ≡ task) × (min (before + 1) (2 ^ 64 - 1) ≤ now)
+IsObtained right (Yours mine) task before now =
+    (arc_value mine ≡ task) × (min (before + 1) (2 ^ 64 - 1) ≤ now)

@@ -46,7 +46,8 @@ pub trait Helpers<W: Work> {
         ensures right { IfOk result (λ o. IfSome o (λ outcome.
             IfSome (held self.old ticket) (λ task. ∥ W.right (W.stands task) outcome ∥₁))) }
         ensures gone { IfOk result (λ o. IfSome o (λ _. held self.new ticket ≡ None)) }
-        ensures missed { IfOk result (λ o. IfNone o (min (misses self.old + 1) (2 ^ 64 - 1) ≤ misses self.new)) }
+        ensures missed { IfOk result
+            (λ o. IfNone o (min (misses self.old + 1) (2 ^ 64 - 1) ≤ misses self.new)) }
         ensures stays { IfOk result (λ o. IfNone o (held self.new ticket ≡ held self.old ticket)) }
         ensures err { OnErr result (held self.new ticket ≡ held self.old ticket) }
         ensures others { (k : ℕ) → k ≢ ticket → held self.new k ≡ held self.old k }

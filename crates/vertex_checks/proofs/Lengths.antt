@@ -11,7 +11,7 @@ use Rattle.plane_geometry.specs.SegmentView.{lesser_end, greater_end}
 use Rattle.crease_model.specs.declared.Piece.{Piece}
 use Rattle.crease_model.specs.Sheet.{place_of}
 use Rattle.crease_model.specs.View.{PatternView}
-use Rattle.crease_model.specs.Rules.{IsPattern}
+use Rattle.crease_model.specs.Rules.{most_pieces, IsPattern}
 use Rattle.line_split.specs.Points.{with_point}
 use Rattle.line_split.specs.LengthLaws.{with_point_length, flat_map_length}
 use Rattle.vertex_checks.specs.declared.fans.Ray.{Ray}
@@ -105,7 +105,7 @@ fan_faults_length fan =
       little_length fan,
     )
 
-faults_at_length : (pattern : PatternView) → length pattern.pieces ≤ 2000 → (v : Point)
+faults_at_length : (pattern : PatternView) → length pattern.pieces ≤ most_pieces → (v : Point)
     → length (faults_at pattern v) ≤ 2002
 faults_at_length pattern few v =
     omega (
@@ -119,7 +119,7 @@ faults_at_length pattern few v =
 pub few_faults : (pattern : PatternView) → IsPattern pattern → length (faults_of pattern) < 2 ^ 32
 unfolding faults_of
 few_faults pattern rules =
-    let few : length pattern.pieces ≤ 2000 = omega (arith, rules.size) in
+    let few : length pattern.pieces ≤ most_pieces = omega (arith, rules.size) in
     let few_vertices : length (vertices_of pattern) ≤ 4000 = omega
     (arith, few, vertices_from_length pattern.corners pattern.pieces []) in
     omega (

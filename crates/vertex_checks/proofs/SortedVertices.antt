@@ -1,36 +1,16 @@
 -- The vertices are the inner ends of the pieces, sorted and each once.
-use Rattle.std.proofs.Common.{◌≡◌, Bool, true, ◌&&◌, inl, inr, List, [], ◌∷◌, refl, sym, ap, ap₂, subst, ◌∙◌}
-use Rattle.std.specs.Prelude.{Contains}
-use Rattle.std.specs.List.{dedup}
+use Rattle.std.proofs.Common.{◌≡◌, true, inl, inr, List, [], ◌∷◌, sym, ap, subst, ◌∙◌}
 use Rattle.std.specs.List.Retain.{IsFiltered, DiffersFromLast}
-use Rattle.std.specs.List.Sorted.{IsSorted, IsPermutation, IsStrictlySortedBy}
-use Rattle.std.specs.Cmp.{IsTotalOrder, IsEquivalence}
-use Rattle.std.specs.Ordering.{ordering_then, is_eq, is_lt}
-use Rattle.std.specs.declared.cmp.Ordering.{Ordering}
-use Rattle.std.specs.declared.cmp.Ordering.TheVariants.{Less, Equal, Greater}
-use Rattle.std.proofs.lemmas.Bool.{cond_both, cond-true, false≢true}
-use Rattle.std.proofs.lemmas.Cmp.{on_total, then_total, eq_by_cmp_equiv}
-use Rattle.std.proofs.lemmas.List.Filters.{dedup_is}
-use Rattle.std.proofs.lemmas.List.Kept.{Contains-dedup, Contains-from_dedup, IsStrictlySortedBy-dedup}
-use Rattle.std.proofs.lemmas.List.Sorted.{Contains-permutation, IsPermutation-sym}
-use Rattle.surd_number.specs.declared.Sgn.TheVariants.{Pos}
-use Rattle.surd_number.specs.Number.{compare_of}
-use Rattle.surd_number.specs.SurdLaws.{surd_eq_is, compare_surds_total}
-use Rattle.surd_number.specs.Value.{number_of}
+use Rattle.std.specs.List.Sorted.{IsSorted, IsPermutation}
+use Rattle.std.proofs.lemmas.Bool.{cond_both, cond-true}
 use Rattle.plane_geometry.specs.declared.Point.{Point}
-use Rattle.plane_geometry.specs.Position.{position_of, compare_positions, compare_points}
-use Rattle.plane_geometry.specs.Direction.{is_positive}
+use Rattle.plane_geometry.specs.Position.{position_of, compare_points}
 use Rattle.plane_geometry.specs.SegmentView.{lesser_end, greater_end}
-use Rattle.plane_geometry.specs.SideLaws.{order_of}
-use Rattle.plane_geometry.specs.StretchLaws.{before_is, same_is, positive_is, zero_is}
-use Rattle.plane_geometry.specs.SegmentLaws.{point_is}
 use Rattle.crease_model.specs.declared.Piece.{Piece}
 use Rattle.crease_model.specs.Sheet.{place_of}
 use Rattle.crease_model.specs.View.{PatternView}
 use Rattle.line_split.specs.MemberLaws.{Member, member, contained, member_left, member_right, member_either}
 use Rattle.line_split.specs.SortedLaws.{sorted_once}
-use Rattle.line_split.specs.Points.{is_rising}
-use Rattle.line_split.specs.PointLaws.{point_order, rising_rest, rising_later, not_before_itself, not_before_each_other}
 use Rattle.vertex_checks.specs.FanMap.{equal_points}
 use Rattle.vertex_checks.specs.Vertices.{is_inside, inner_point, inner_ends, inner_ends_of, vertices_of}
 use Rattle.crease_model.specs.Rules.{IsEndOf}

@@ -1,5 +1,5 @@
 -- Fans kept by their points.
-use Rattle.std.specs.Prelude.{Bool, List, []}
+use Rattle.std.specs.Prelude.{List, []}
 use Rattle.std.specs.Option.{option_map_or}
 use Rattle.indexmap.specs.IndexMap.{IndexMap, get}
 use Rattle.smallvec.specs.SmallVec.{SmallVec}

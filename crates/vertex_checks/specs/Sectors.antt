@@ -1,9 +1,9 @@
 -- The sectors between neighbouring creases of a fan, and what the theorems say of them and of the creases.
-use Rattle.std.specs.Prelude.{◌≡◌, ◌≢◌, ℕ, ◌+◌, ◌-◌, ◌%◌, ◌<◌, Bool, true, false, List, [], ◌∷◌, length, slice_index_or, IsTrue}
+use Rattle.std.specs.Prelude.{◌≡◌, ◌≢◌, ℕ, ◌+◌, ◌-◌, ◌%◌, ◌<◌, List, [], ◌∷◌, length, slice_index_or, IsTrue}
 use Rattle.std.specs.List.{count_by}
 use Rattle.crease_model.specs.declared.Kind.{Kind}
 use Rattle.crease_model.specs.Kind.{is_same_kind}
-use Rattle.crease_model.specs.declared.Kind.TheVariants.{Edge, Mountain, Valley, Aux}
+use Rattle.crease_model.specs.declared.Kind.TheVariants.{Edge, Mountain, Valley}
 use Rattle.isometry_map.specs.Linear.{rotation, reflection, composed}
 use Rattle.vertex_checks.specs.declared.fans.Ray.{Ray}
 use Rattle.vertex_checks.specs.Fan.{ray_number}

@@ -1,6 +1,7 @@
 //! All faults of a pattern.
 
 ghost use Rattle.std.specs.Prelude.{◌≡◌, ◌<◌, ◌≤◌, ◌↔◌, ◌∷◌, ◌++◌, [], length, Contains, IfOk, OnOk};
+ghost use Rattle.crease_model.specs.Rules.{most_pieces};
 ghost use Rattle.isometry_map.specs.LinearView.{linear_number};
 ghost use Rattle.plane_geometry.specs.declared.Point.{Point};
 ghost use Rattle.vertex_checks.specs.Fan.{fan_of};
@@ -29,7 +30,7 @@ fn comes_round(fan: &[Ray]) -> bool
 }
 
 fn count_of_kind(kind: Kind, fan: &[Ray]) -> u32
-    requires { length fan.now ≤ 2000 }
+    requires { length fan.now ≤ most_pieces }
     ensures { result ≡ count_of_kind kind fan.now }
 {
     let mut count = 0;
@@ -63,7 +64,7 @@ fn push_kawasaki(faults: &mut Vec<VertexFault>, v: &Point, fan: &[Ray]) -> Resul
 }
 
 fn push_maekawa(faults: &mut Vec<VertexFault>, v: &Point, fan: &[Ray]) -> Result<(), AllocError>
-    requires { length fan.now ≤ 2000 }
+    requires { length fan.now ≤ most_pieces }
     ensures { OnOk result
         (faults.new.items ≡ faults.old.items ++ vertex_faults v.now (maekawa_faults fan.now)) }
 {
@@ -76,7 +77,7 @@ fn push_maekawa(faults: &mut Vec<VertexFault>, v: &Point, fan: &[Ray]) -> Result
 }
 
 fn push_fan(faults: &mut Vec<VertexFault>, v: &Point, fan: &[Ray]) -> Result<(), AllocError>
-    requires { length fan.now ≤ 2000 }
+    requires { length fan.now ≤ most_pieces }
     ensures { OnOk result (faults.new.items ≡ faults.old.items ++ vertex_faults v.now (fan_faults fan.now)) }
 {
     push_kawasaki(faults, v, fan)?;
@@ -90,7 +91,7 @@ pub(crate) fn push_vertex(
     fans: &Fans,
     v: &Point,
 ) -> Result<(), AllocError>
-    requires few { length pieces.now ≤ 2000 }
+    requires few { length pieces.now ≤ most_pieces }
     requires kept { (q : Point) → kept_fan fans.now q ≡ fan_of q pieces.now }
     ensures { OnOk result
         (faults.new.items ≡ faults.old.items ++ vertex_faults v.now (fan_faults (fan_of v.now pieces.now))) }

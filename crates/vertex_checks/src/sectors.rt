@@ -1,6 +1,7 @@
 //! The big-little-big lemma: sectors smaller than both beside them.
 
 ghost use Rattle.std.specs.Prelude.{◌≡◌, ◌<◌, ◌≤◌, ◌++◌, length, OnOk};
+ghost use Rattle.crease_model.specs.Rules.{most_pieces};
 ghost use Rattle.vertex_checks.specs.Sectors.{sector, around, sector_at};
 ghost use Rattle.vertex_checks.specs.Faults.{is_small_sector, little_fault_at, little_faults, vertex_faults};
 
@@ -37,7 +38,7 @@ fn sector_at(fan: &[Ray], k: usize) -> u8
 // Whether the sector from the k-th ray is smaller than both beside it, with two creases of one kind.
 fn is_small_sector(fan: &[Ray], k: usize) -> bool
     requires inside { k < length fan.now }
-    requires few { length fan.now ≤ 2000 }
+    requires few { length fan.now ≤ most_pieces }
     ensures { result ≡ is_small_sector fan.now k }
 {
     let size = sector_at(fan, k);
@@ -53,7 +54,7 @@ fn push_little_fault(
     k: usize,
 ) -> Result<(), AllocError>
     requires inside { k < length fan.now }
-    requires few { length fan.now ≤ 2000 }
+    requires few { length fan.now ≤ most_pieces }
     ensures { OnOk result
         (faults.new.items ≡ faults.old.items ++ vertex_faults v.now (little_fault_at fan.now k)) }
 {
@@ -70,7 +71,7 @@ pub(crate) fn push_little_faults(
     v: &Point,
     fan: &[Ray],
 ) -> Result<(), AllocError>
-    requires { length fan.now ≤ 2000 }
+    requires { length fan.now ≤ most_pieces }
     ensures { OnOk result
         (faults.new.items ≡ faults.old.items ++ vertex_faults v.now (little_faults fan.now)) }
 {

@@ -1,6 +1,7 @@
 //! The faults of vertices, worked by hand.
 
 ghost use Rattle.std.specs.Prelude.{◌≤◌, length};
+ghost use Rattle.crease_model.specs.Rules.{most_pieces};
 
 use crate::checking::push_vertex;
 use crate::fans::fans_of;
@@ -34,7 +35,7 @@ fn valley(from: (i64, i64), to: (i64, i64)) -> Result<Piece, Fail> {
 
 /// The lines of the faults where these pieces meet.
 fn text_at(alloc: Global, pieces: &[Piece], x: i64, y: i64) -> Result<Vec<u8>, Fail>
-    requires { length pieces.now ≤ 2000 }
+    requires { length pieces.now ≤ most_pieces }
 {
     let v = whole(x, y)?;
     let fans = fans_of(alloc, pieces)?;

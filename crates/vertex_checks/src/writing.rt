@@ -11,7 +11,8 @@ use std::alloc::AllocError;
 
 // Here and below, on an error a part of the text may stand behind the old bytes.
 fn put_counts(out: &mut Vec<u8>, m: u32, v: u32) -> Result<(), AllocError>
-    ensures ok { OnOk result (out.new.items ≡ out.old.items ++ codes "maekawa " ++ decimal m ++ codes " " ++ decimal v) }
+    ensures ok { OnOk result
+        (out.new.items ≡ out.old.items ++ codes "maekawa " ++ decimal m ++ codes " " ++ decimal v) }
     ensures err { OnErr result (KeepsFront out.old.items out.new.items) }
 {
     out.extend_from_slice(b"maekawa ")?;

@@ -4,6 +4,7 @@ ghost use Rattle.std.specs.Prelude.{◌≡◌, ℕ, ◌+◌, ◌-◌, ◌*◌, �
 ghost use Rattle.std.specs.List.{All};
 ghost use Rattle.isometry_map.specs.Motion.{IsComposition, IsReflection, IsSameMap, IsShiftWithin};
 ghost use Rattle.isometry_map.specs.IsometryView.{motion_of};
+ghost use Rattle.face_builder.specs.Faces.{most_faces};
 ghost use Rattle.face_builder.specs.MapRules.{AreFaces};
 ghost use Rattle.wireframe_fold.specs.Folding.{motions_of, motion_at, mirror_in, AreWithin, IsStepTo, HasPlaces, IsStepWithin, IsClosed, AreAlongWalk, IsLeastOpen};
 
@@ -61,7 +62,7 @@ pub fn tell_places(faces: &FaceMap)
     ensures rules { AreFaces faces.now }
     ensures steps { All (IsStepWithin faces.now) faces.now.walk }
     ensures shared { All (HasPlaces (length faces.now.faces)) faces.now.shared }
-    ensures short { length faces.now.walk < 256 }
+    ensures short { length faces.now.walk < most_faces }
 {
     // tells the rules of the faces
     let _ = faces.count();

@@ -1,3 +1,4 @@
 pub mod Splits
 pub mod Jobs
 pub mod Needs
+pub mod OneFact

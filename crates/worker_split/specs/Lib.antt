@@ -4,3 +4,4 @@ pub mod Job
 pub mod Invariant
 pub mod Waiting
 pub mod Settled
+pub mod Laws

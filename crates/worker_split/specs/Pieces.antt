@@ -12,12 +12,14 @@ consistent_lists r count = filter (is_consistent r) (all_lists count)
 -- whether neither this length nor a smaller one has more than `most` consistent lists
 unfoldable pub is_allowed : RulesView → ℕ → ℕ → Bool
 is_allowed r most zero = nat_le (length (consistent_lists r zero)) most
-is_allowed r most (suc count) = is_allowed r most count && nat_le (length (consistent_lists r (suc count))) most
+is_allowed r most (suc count) =
+    is_allowed r most count && nat_le (length (consistent_lists r (suc count))) most
 
 -- the greatest allowed length up to this one
 unfoldable pub allowed_length : RulesView → ℕ → ℕ → ℕ
 allowed_length r most zero = zero
-allowed_length r most (suc count) = if is_allowed r most (suc count) then suc count else allowed_length r most count
+allowed_length r most (suc count) =
+    if is_allowed r most (suc count) then suc count else allowed_length r most count
 
 -- the consistent lists of the greatest allowed length
 unfoldable pub pieces_of : RulesView → ℕ → List (List Sign)

@@ -40,7 +40,8 @@ left_at t place = remaining t.rules t.prefix place
 -- lists that begin with the prefix.
 abbrev pub IsRightEnd : TaskView → End → Type 0
 IsRightEnd t (Found order position) =
-    (left_at t t.from ≡ order.list ∷ left_at t (place_of position)) × IsWithin t.rules t.prefix position.signs.list
+    (left_at t t.from ≡ order.list ∷ left_at t (place_of position))
+    × IsWithin t.rules t.prefix position.signs.list
 IsRightEnd t Done = left_at t t.from ≡ []
 IsRightEnd t (Paused position) =
     (left_at t (place_of position) ≡ left_at t t.from)

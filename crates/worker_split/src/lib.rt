@@ -3,6 +3,7 @@
 
 mod answers;
 mod job;
+pub mod laws;
 mod outcome;
 mod performing;
 mod piece;

@@ -116,7 +116,8 @@ impl Piece {
 
     /// Whether the last task, unanswered so far, has the budget and the position of the outcome.
     pub(crate) fn is_answered_by(&self, outcome: &Outcome) -> bool
-        ensures { IsTrue result ↔ ((self.now.last ≡ LastTask.Asked outcome.now.budget) × (place_of outcome.now.from ≡ place_of self.now.kept)) }
+        ensures { IsTrue result ↔ ((self.now.last ≡ LastTask.Asked outcome.now.budget)
+            × (place_of outcome.now.from ≡ place_of self.now.kept)) }
     {
         match self.last {
             LastTask::Asked { budget } => budget == outcome.budget && outcome.from.same(&self.kept),

@@ -1,4 +1,4 @@
-use Rattle.job_enumeration.specs.RecordLaws.{job_after-grown, record-grown, record-front}
+use Rattle.job_enumeration.proofs.Growth.{job_after-grown, record-grown, record-front}
 use Rattle.job_enumeration.proofs.laws.records_grow.Goals as goal
 
 pub returns : goal.returns

@@ -3,7 +3,7 @@ use Rattle.std.proofs.Math.Seq.{take-add}
 use Rattle.std.proofs.lemmas.List.{take_rest}
 use Rattle.std.proofs.KnownBytes.{Appends-trans}
 use Rattle.std.specs.Io.KnownBytes.{Appends}
-use Rattle.oriedita_io.specs.Told.{FinishedAfter-add}
+use Rattle.oriedita_io.proofs.Finished.{FinishedAfter-add}
 use Rattle.oriedita_io.proofs.writing.write_all.Goals as goal
 
 -- the front of the bytes, and then the front of the rest

@@ -9,12 +9,12 @@ use Rattle.job_register.proofs.session.Session.events.Goals as goal
 pub returns-clause-legal : goal.returns-clause-legal
 returns-clause-legal c =
     subst (λ (v : SessionView). IsLegal v.state.jobs.most v.events) c.self.view_is
-    (legal_kept (state_with c.self.inside.journal c.self.inside.jobs) c.self.inside.record.list.items
+    (legal_kept (state_with c.self.inside.journal c.self.inside.jobs) c.self.inside.events.list.items
     c.self.inside.refused c.self.invariant.kept)
 
 pub returns-clause-enumeration : goal.returns-clause-enumeration
 returns-clause-enumeration c =
     subst (λ (v : SessionView). EnumeratesOrders v.state.jobs.most v.events) c.self.view_is
-    (c.records_enumerate.ensures c.self.inside.jobs.most c.self.inside.record.list.items
-    (legal_kept (state_with c.self.inside.journal c.self.inside.jobs) c.self.inside.record.list.items
+    (c.records_enumerate.ensures c.self.inside.jobs.most c.self.inside.events.list.items
+    (legal_kept (state_with c.self.inside.journal c.self.inside.jobs) c.self.inside.events.list.items
     c.self.inside.refused c.self.invariant.kept))

@@ -29,7 +29,7 @@ invariant_of-self-2 c =
     let x = c.args.outcome in
     let s = state_with c.self.inside.journal c.self.inside.jobs in
     let t = state_with c.self.inside.journal c.post-taken.new.self in
-    let es = c.self.inside.record.list.items in
+    let es = c.self.inside.events.list.items in
     let right : IsRightWhereLive c.self.inside.jobs x =
     subst (λ (v : SessionView). IsRightWhereLive v.state.jobs x) (sym c.self.view_is) c.requires in
     let given : c.in_ok-copy.field-0 ≡ settled x =
@@ -54,7 +54,7 @@ returns-clause-legal c =
     let x = c.args.outcome in
     let s = state_with c.self.inside.journal c.self.inside.jobs in
     let t = state_with c.self.inside.journal c.post-taken.new.self in
-    let es = c.self.inside.record.list.items in
+    let es = c.self.inside.events.list.items in
     let right : IsRightWhereLive c.self.inside.jobs x =
     subst (λ (v : SessionView). IsRightWhereLive v.state.jobs x) (sym c.self.view_is) c.requires in
     let given : c.in_ok-copy.field-0 ≡ settled x =
@@ -76,21 +76,21 @@ returns-clause-legal c =
 
 pub returns-clause-text : goal.returns-clause-text
 returns-clause-text c =
-    let es = c.self.inside.record.list.items in
+    let es = c.self.inside.events.list.items in
     let pushed : c.push.new.self.items ≡ es ++ Posted c.in_ok-kept.kept c.was_accepted-accepted.result ∷ [] =
     search rules in
     rw (pushed, ← c.self.view_is) (text_posted es c.in_ok-kept.kept c.was_accepted-accepted.result)
 
 pub returns-clause-commands : goal.returns-clause-commands
 returns-clause-commands c =
-    let es = c.self.inside.record.list.items in
+    let es = c.self.inside.events.list.items in
     let pushed : c.push.new.self.items ≡ es ++ Posted c.in_ok-kept.kept c.was_accepted-accepted.result ∷ [] =
     search rules in
     rw (pushed, ← c.self.view_is) (commands_posted es c.in_ok-kept.kept c.was_accepted-accepted.result)
 
 pub returns-clause-versions : goal.returns-clause-versions
 returns-clause-versions c version p e =
-    let es = c.self.inside.record.list.items in
+    let es = c.self.inside.events.list.items in
     let last : Event = Posted c.in_ok-kept.kept c.was_accepted-accepted.result in
     let pushed : c.push.new.self.items ≡ es ++ last ∷ [] = search rules in
     subst (λ (fs : List Event). version_in fs version ≡ Some p) (sym pushed)
@@ -99,14 +99,14 @@ returns-clause-versions c version p e =
 
 pub returns-clause-running : goal.returns-clause-running
 returns-clause-running c =
-    let es = c.self.inside.record.list.items in
+    let es = c.self.inside.events.list.items in
     let pushed : c.push.new.self.items ≡ es ++ Posted c.in_ok-kept.kept c.was_accepted-accepted.result ∷ [] =
     search rules in
     rw (pushed, ← c.self.view_is) (running_posted es c.in_ok-kept.kept c.was_accepted-accepted.result)
 
 pub returns-clause-outcomes : goal.returns-clause-outcomes
 returns-clause-outcomes c =
-    let es = c.self.inside.record.list.items in
+    let es = c.self.inside.events.list.items in
     let pushed : c.push.new.self.items ≡ es ++ Posted c.in_ok-kept.kept c.was_accepted-accepted.result ∷ [] =
     search rules in
     rw (pushed, ← c.self.view_is) (accepted_posted es c.in_ok-kept.kept c.was_accepted-accepted.result)

@@ -14,7 +14,7 @@ use Rattle.job_register.proofs.session.Session.step.Goals as goal
 
 pub invariant_of-self-2 : goal.invariant_of-self-2
 invariant_of-self-2 g c =
-    let es = c.self.inside.record.list.items in
+    let es = c.self.inside.events.list.items in
     let e : Event = Made c.args.command c.in_ok-reply.reply in
     let s = state_with c.self.inside.journal c.self.inside.jobs in
     let t = state_with c.answer_command.new.journal c.answer_command.new.jobs in
@@ -27,7 +27,7 @@ invariant_of-self-2 g c =
 
 pub returns-clause-legal : goal.returns-clause-legal
 returns-clause-legal g c =
-    let es = c.self.inside.record.list.items in
+    let es = c.self.inside.events.list.items in
     let e : Event = Made c.args.command c.in_ok-reply.reply in
     let s = state_with c.self.inside.journal c.self.inside.jobs in
     let t = state_with c.answer_command.new.journal c.answer_command.new.jobs in
@@ -50,21 +50,21 @@ returns-clause-most g c =
 
 pub returns-clause-text : goal.returns-clause-text
 returns-clause-text g c =
-    let es = c.self.inside.record.list.items in
+    let es = c.self.inside.events.list.items in
     let e : Event = Made c.args.command c.in_ok-reply.reply in
     let pushed : c.push.new.self.items ≡ es ++ e ∷ [] = search rules in
     rw (pushed, ← c.self.view_is) (text_pushed es e)
 
 pub returns-clause-commands : goal.returns-clause-commands
 returns-clause-commands g c =
-    let es = c.self.inside.record.list.items in
+    let es = c.self.inside.events.list.items in
     let e : Event = Made c.args.command c.in_ok-reply.reply in
     let pushed : c.push.new.self.items ≡ es ++ e ∷ [] = search rules in
     rw (pushed, ← c.self.view_is) (commands_in-append es (e ∷ []))
 
 pub returns-clause-versions : goal.returns-clause-versions
 returns-clause-versions g c version p e =
-    let es = c.self.inside.record.list.items in
+    let es = c.self.inside.events.list.items in
     let last : Event = Made c.args.command c.in_ok-reply.reply in
     let pushed : c.push.new.self.items ≡ es ++ last ∷ [] = search rules in
     subst (λ (fs : List Event). version_in fs version ≡ Some p) (sym pushed)
@@ -73,7 +73,7 @@ returns-clause-versions g c version p e =
 
 pub returns-clause-running : goal.returns-clause-running
 returns-clause-running g c =
-    let es = c.self.inside.record.list.items in
+    let es = c.self.inside.events.list.items in
     let e : Event = Made c.args.command c.in_ok-reply.reply in
     let s = state_with c.self.inside.journal c.self.inside.jobs in
     let t = state_with c.answer_command.new.journal c.answer_command.new.jobs in
@@ -85,7 +85,7 @@ returns-clause-running g c =
 
 pub returns-clause-outcomes : goal.returns-clause-outcomes
 returns-clause-outcomes g c =
-    let es = c.self.inside.record.list.items in
+    let es = c.self.inside.events.list.items in
     let e : Event = Made c.args.command c.in_ok-reply.reply in
     let pushed : c.push.new.self.items ≡ es ++ e ∷ [] = search rules in
     rw (pushed, ← c.self.view_is) (accepted_made es c.args.command c.in_ok-reply.reply)

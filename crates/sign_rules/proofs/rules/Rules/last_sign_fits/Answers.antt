@@ -3,7 +3,7 @@ use Rattle.std.specs.List.{list_any}
 use Rattle.std.proofs.lemmas.List.{get_or_default}
 use Rattle.std.proofs.lemmas.List.Folds.{list_any_at}
 use Rattle.sign_rules.specs.Rules.{RulesView, is_broken_at_last}
-use Rattle.sign_rules.specs.RuleLaws.{last_pair}
+use Rattle.sign_rules.specs.Rule.{last_pair}
 use Rattle.sign_rules.specs.RuleIndex.{IsLatest}
 use Rattle.sign_rules.specs.ConsistencyLaws.{decided-from_last}
 use Rattle.sign_rules.proofs.Chains.{HasFit, HasFit-start, HasFit-next, at_last-broken, none_broken, step_from_value}
