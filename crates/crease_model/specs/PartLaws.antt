@@ -17,8 +17,8 @@ use Rattle.plane_geometry.specs.Stored.{IsStretch}
 use Rattle.plane_geometry.specs.Stretch.{Stretch, is_on}
 use Rattle.plane_geometry.specs.SegmentOf.{is_segment, segment_by, segment_from, segment_of}
 use Rattle.plane_geometry.specs.SegmentView.{stretch_of}
-use Rattle.plane_geometry.specs.SideLaws.{may_sum, order_of, order_turned, order_chain, side_chain, side_turned, side_from, square_sign, along_cross, product_by_zero, opposite_twice, turn_sign}
-use Rattle.plane_geometry.specs.StretchLaws.{LiesOn, positive_is, negative_is, ends_order, to_in_line, side_self, on_parts, on_from_parts}
+use Rattle.plane_geometry.specs.SideLaws.{may_sum, order_of, order_self, order_turned, order_chain, side_chain, side_turned, side_from, square_sign, along_cross, product_by_zero, opposite_twice, turn_sign}
+use Rattle.plane_geometry.specs.StretchLaws.{before_is, LiesOn, positive_is, negative_is, ends_order, to_in_line, side_self, on_parts, on_from_parts}
 use Rattle.plane_geometry.specs.DirectionLaws.{along_parts}
 use Rattle.plane_geometry.specs.CommonPointLaws.{line_through, side_on_line, turn_turned}
 use Rattle.crease_model.specs.declared.Piece.{Piece}
@@ -214,6 +214,24 @@ segment_ends p q x e = go (is_lt (compare_positions (position_of p) (position_of
     go : (b : Bool) → cond b (segment_from p q) (segment_from q p) ≡ Some x → EndsAt x p q
     go true f = let k = ends_from p q (direction_of (position_of p) (position_of q)) x f in in_order k.0 k.1
     go false f = let k = ends_from q p (direction_of (position_of q) (position_of p)) x f in turned k.0 k.1
+
+ends_differ : (s : Segment) → s.from ≡ s.to → false ≡ true
+ends_differ s same =
+    sym (before_is (position_of s.from) (position_of s.from)
+    ∙ ap is_positive (order_self (position_of s.from)))
+    ∙ ap (λ (v : Point). is_lt (compare_positions (position_of s.from) (position_of v))) same ∙ s.stretch.0
+
+-- from a point to itself there is none
+pub no_segment : (p q : Point) → p ≡ q → segment_of p q ≡ None
+no_segment p q same = go (segment_of p q) refl
+  where
+    go : (o : Option Segment) → segment_of p q ≡ o → o ≡ None
+    go None e = refl
+    go (Some s) e =
+        elim (segment_ends p q s e) [
+          | in_order f g ↦ absurd (false≢true (ends_differ s (f ∙ same ∙ sym g)))
+          | turned f g ↦ absurd (false≢true (ends_differ s (f ∙ sym same ∙ sym g)))
+        ]
 
 -- ---- directions of sides
 
