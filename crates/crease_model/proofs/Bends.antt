@@ -23,10 +23,6 @@ length-bends before (d ∷ ds) = ap suc (length-bends d ds)
 abbrev bend_of : Option ℕ → Option ℕ → Bend
 bend_of before after = record { before = before; after = after }
 
-first_bend : (before d : Option ℕ) (ds : List (Option ℕ))
-    → slice_get (bends_from before (d ∷ ds)) 0 ≡ Some (bend_of before d)
-first_bend before d ds = refl
-
 later_bend : (before : Option ℕ) (ds : List (Option ℕ)) (k : ℕ) → suc k < length ds
     → slice_get (bends_from before ds) (suc k) ≡ Some (bend_of (get_or ds k None) (get_or ds (suc k) None))
 later_bend before [] k few = absurd (omega arith)

@@ -17,8 +17,8 @@ use Rattle.plane_geometry.specs.Stored.{IsStretch}
 use Rattle.plane_geometry.specs.Stretch.{Stretch, is_on}
 use Rattle.plane_geometry.specs.SegmentOf.{is_segment, segment_by, segment_from, segment_of}
 use Rattle.plane_geometry.specs.SegmentView.{stretch_of}
-use Rattle.plane_geometry.specs.SideLaws.{may_sum, order_of, order_turned, order_chain, side_chain, side_turned, side_from, square_sign, along_cross, product_by_zero, opposite_twice, turn_sign}
-use Rattle.plane_geometry.specs.StretchLaws.{LiesOn, positive_is, negative_is, ends_order, to_in_line, side_self, on_parts, on_from_parts}
+use Rattle.plane_geometry.specs.SideLaws.{may_sum, order_of, order_self, order_turned, order_chain, side_chain, side_turned, side_from, square_sign, along_cross, product_by_zero, opposite_twice, turn_sign}
+use Rattle.plane_geometry.specs.StretchLaws.{before_is, LiesOn, positive_is, negative_is, ends_order, to_in_line, side_self, on_parts, on_from_parts}
 use Rattle.plane_geometry.specs.DirectionLaws.{along_parts}
 use Rattle.plane_geometry.specs.CommonPointLaws.{line_through, side_on_line, turn_turned}
 use Rattle.crease_model.specs.declared.Piece.{Piece}
@@ -30,7 +30,7 @@ use Rattle.crease_model.specs.Rules.{is_crease_kind, is_on_sheet, is_crease}
 -- ---- points of a stretch
 
 -- the lines of x and y do not turn from each other where both ends of q are on both
-pub turn_by_part : (x y q : Stretch) → IsStretch x → IsStretch q → side_of x.from x.dir q.from ≡ Zero
+turn_by_part : (x y q : Stretch) → IsStretch x → IsStretch q → side_of x.from x.dir q.from ≡ Zero
     → side_of x.from x.dir q.to ≡ Zero → side_of y.from y.dir q.from ≡ Zero → side_of y.from y.dir q.to ≡ Zero
     → turn_sign y.dir x.dir ≡ Zero
 turn_by_part x y q h k a b c d =
@@ -178,7 +178,7 @@ on_sheet_parts corners s e =
     (sym (outside_is corners s.from) ∙ not-true _ k.0, sym (outside_is corners s.to) ∙ not-true _ k.1)
 
 -- a point on a segment with no end outside is not outside
-pub on_sheet_between : (corners : List Point) (s : Segment) (v : Position)
+on_sheet_between : (corners : List Point) (s : Segment) (v : Position)
     → is_on_sheet corners (stretch_of s) ≡ true → is_on v (stretch_of s) ≡ true
     → is_outside (place_of corners v) ≡ false
 on_sheet_between corners s v on_sheet on =
@@ -186,38 +186,6 @@ on_sheet_between corners s v on_sheet on =
     outside_is corners v
     ∙ none_right (stretch_of s) v (sides_of corners) s.stretch
     (on_parts v (stretch_of s) s.stretch on) k.0 k.1
-
--- ---- within a side
-
-both_within : (s u : Segment) (o : Option Segment)
-    → (is_on (stretch_of u).from (stretch_of s) && is_on (stretch_of u).to (stretch_of s)) ≡ true
-    → (is_on_segment (stretch_of s).from o && is_on_segment (stretch_of s).to o) ≡ true
-    → (is_on_segment (stretch_of u).from o && is_on_segment (stretch_of u).to o) ≡ true
-both_within s u None e f = absurd (false≢true f)
-both_within s u (Some x) e f =
-    let ends = ends_lie (stretch_of s) (stretch_of u) s.stretch e in
-    and_from _ _
-    (on_from_parts _ (stretch_of x) x.stretch
-    (on_covering (stretch_of x) (stretch_of s) _ x.stretch s.stretch f ends.0))
-    (on_from_parts _ (stretch_of x) x.stretch
-    (on_covering (stretch_of x) (stretch_of s) _ x.stretch s.stretch f ends.1))
-
-part_within_one : (sides : List Side) (s u : Segment) → list_any (holds_both_ends (stretch_of s)) sides ≡ true
-    → (is_on (stretch_of u).from (stretch_of s) && is_on (stretch_of u).to (stretch_of s)) ≡ true
-    → list_any (holds_both_ends (stretch_of u)) sides ≡ true
-part_within_one [] s u e f = absurd (false≢true e)
-part_within_one (side ∷ sides) s u e f =
-    elim (or_cases (holds_both_ends (stretch_of s) side)
-    (list_any (holds_both_ends (stretch_of s)) sides) e) [
-      | inl l ↦ or_left _ _ (both_within s u (segment_of side.start side.end) f l)
-      | inr r ↦ or_right (holds_both_ends (stretch_of u) side) _ (part_within_one sides s u r f)
-    ]
-
--- a segment both of whose ends are on one within a side is within that side
-pub part_within_side : (corners : List Point) (s u : Segment) → is_within_side corners (stretch_of s) ≡ true
-    → (is_on (stretch_of u).from (stretch_of s) && is_on (stretch_of u).to (stretch_of s)) ≡ true
-    → is_within_side corners (stretch_of u) ≡ true
-part_within_side corners s u e f = part_within_one (sides_of corners) s u e f
 
 -- ---- the segment between two points
 
@@ -246,6 +214,24 @@ segment_ends p q x e = go (is_lt (compare_positions (position_of p) (position_of
     go : (b : Bool) → cond b (segment_from p q) (segment_from q p) ≡ Some x → EndsAt x p q
     go true f = let k = ends_from p q (direction_of (position_of p) (position_of q)) x f in in_order k.0 k.1
     go false f = let k = ends_from q p (direction_of (position_of q) (position_of p)) x f in turned k.0 k.1
+
+ends_differ : (s : Segment) → s.from ≡ s.to → false ≡ true
+ends_differ s same =
+    sym (before_is (position_of s.from) (position_of s.from)
+    ∙ ap is_positive (order_self (position_of s.from)))
+    ∙ ap (λ (v : Point). is_lt (compare_positions (position_of s.from) (position_of v))) same ∙ s.stretch.0
+
+-- from a point to itself there is none
+pub no_segment : (p q : Point) → p ≡ q → segment_of p q ≡ None
+no_segment p q same = go (segment_of p q) refl
+  where
+    go : (o : Option Segment) → segment_of p q ≡ o → o ≡ None
+    go None e = refl
+    go (Some s) e =
+        elim (segment_ends p q s e) [
+          | in_order f g ↦ absurd (false≢true (ends_differ s (f ∙ same ∙ sym g)))
+          | turned f g ↦ absurd (false≢true (ends_differ s (f ∙ sym same ∙ sym g)))
+        ]
 
 -- ---- directions of sides
 
@@ -547,7 +533,7 @@ within_whole (p ∷ q ∷ qs) s u a b c d part e =
     whole_within_one s u first last.0 first (sides_from p (q ∷ qs)) part last.1 corners e
 
 -- on a convex sheet, a segment that has a part within one side, and no end outside, is within that side
-pub whole_within_side : (corners : List Point) (s u : Segment) → is_sheet corners ≡ true
+whole_within_side : (corners : List Point) (s u : Segment) → is_sheet corners ≡ true
     → is_on_sheet corners (stretch_of s) ≡ true
     → (is_on (stretch_of u).from (stretch_of s) && is_on (stretch_of u).to (stretch_of s)) ≡ true
     → is_within_side corners (stretch_of u) ≡ true → is_within_side corners (stretch_of s) ≡ true

@@ -85,7 +85,8 @@ impl From<AllocError> for SheetFault {
     }
 }
 
-/// A convex sheet, seen as its corners counterclockwise from the least one. What its sides are is kept beside them.
+/// A convex sheet, seen as its corners counterclockwise from the least one. What is known of its sides is kept
+/// beside them.
 #[derive(Drop)]
 pub struct Sheet {
     corners: Vec<Point>,

@@ -13,7 +13,7 @@ use plane_geometry::{Dir, Point, Segment, direction, next_corner, on_segment, si
 use std::alloc::{AllocError, Global};
 use surd_number::Sgn;
 
-/// What a sheet knows of a side: the corner that it starts from, its direction, and the segment to the next corner.
+/// What a sheet knows of a side: the corner where it begins, its direction, and the segment to the next corner.
 #[derive(Clone, Copy)]
 pub struct KnownSide {
     start: Point,

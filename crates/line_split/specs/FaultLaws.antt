@@ -39,7 +39,7 @@ module _ (s u : Segment) (xs : List Point) where
             absurd (cc);
       }
 
-  pub none_out_of_range : with_piece_cuts (stretch_of s) xs u ≡ None
+  none_out_of_range : with_piece_cuts (stretch_of s) xs u ≡ None
       → MeetsOutOfRange (stretch_of s) (stretch_of u)
   none_out_of_range =
       go (is_meeting (stretch_of s) (stretch_of u)) (common_of (stretch_of s) (stretch_of u)) refl refl
@@ -52,7 +52,7 @@ module _ (s u : Segment) (xs : List Point) where
       go true None f g e = out_of_range f g
       go true (Some p) f g e = absurd (cc)
 
-  pub none_from_out_of_range : MeetsOutOfRange (stretch_of s) (stretch_of u)
+  none_from_out_of_range : MeetsOutOfRange (stretch_of s) (stretch_of u)
       → with_piece_cuts (stretch_of s) xs u ≡ None
   none_from_out_of_range out =
       go (is_meeting (stretch_of s) (stretch_of u)) (common_of (stretch_of s) (stretch_of u)) refl refl

@@ -106,24 +106,24 @@ equal_is p q =
     ap₂ ◌&&◌ (surd_eq_is p.x q.x) (surd_eq_is p.y q.y)
     ∙ both_equal (compare_of (number_of p.x) (number_of q.x)) (compare_of (number_of p.y) (number_of q.y))
 
-pub points_total : IsTotalOrder compare_points
+points_total : IsTotalOrder compare_points
 points_total = then_total (on_total (λ (p : Point). p.x) compare_surds_total)
     (on_total (λ (p : Point). p.y) compare_surds_total)
 
-pub equal_equiv : IsEquivalence equal_points
+equal_equiv : IsEquivalence equal_points
 equal_equiv = subst (λ (E : Point → Point → Bool). IsEquivalence E) (λ i p q. sym (equal_is p q) i)
     (eq_by_cmp_equiv points_total)
 
-pub equal_point : (p q : Point) → equal_points p q ≡ true → p ≡ q
+equal_point : (p q : Point) → equal_points p q ≡ true → p ≡ q
 equal_point p q e = point_is p q
     (zero_is (order_of (position_of p) (position_of q))
     (sym (same_is (position_of p) (position_of q)) ∙ sym (equal_is p q) ∙ e))
 
-pub order_before : (p q : Point) → compare_points p q ≡ Less → point_order p q ≡ Pos
+order_before : (p q : Point) → compare_points p q ≡ Less → point_order p q ≡ Pos
 order_before p q e =
     positive_is (point_order p q) (sym (before_is (position_of p) (position_of q)) ∙ ap is_lt e)
 
-pub before_order : (p q : Point) → point_order p q ≡ Pos → compare_points p q ≡ Less
+before_order : (p q : Point) → point_order p q ≡ Pos → compare_points p q ≡ Less
 before_order p q e =
     less_is (compare_points p q) (before_is (position_of p) (position_of q) ∙ ap is_positive e)
   where
@@ -132,7 +132,7 @@ before_order p q e =
     less_is Equal f = absurd (false≢true f)
     less_is Greater f = absurd (false≢true f)
 
-pub rising_sorted : (vs : List Point) → is_rising vs ≡ true → IsStrictlySortedBy compare_points vs
+rising_sorted : (vs : List Point) → is_rising vs ≡ true → IsStrictlySortedBy compare_points vs
 rising_sorted [] up = sorted_none compare_points
 rising_sorted (v ∷ vs) up =
     sorted_cons compare_points v vs (λ z m. before_order v z (rising_later v vs z up m))
