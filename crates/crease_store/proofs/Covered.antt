@@ -1,6 +1,6 @@
 -- Points of stretches, and vertices once a segment is added.
-use Rattle.std.proofs.Common.{◌≡◌, true, ◌&&◌, ◌||◌, ◌⊎◌, inl, inr, List, sym, ap, subst, ◌∙◌}
-use Rattle.std.proofs.lemmas.Bool.{and_parts, and_from, or_cases, or_left, or_right}
+use Rattle.std.proofs.Common.{◌≡◌, true, false, not, ◌&&◌, ◌||◌, ◌⊎◌, inl, inr, List, sym, ap, subst, ◌∙◌}
+use Rattle.std.proofs.lemmas.Bool.{and_parts, and_from, or_cases, or_left, or_right, not-true}
 use Rattle.surd_number.specs.declared.Sgn.TheVariants.{Neg, Zero, Pos}
 use Rattle.surd_number.specs.SignLaws.{opposite_sign}
 use Rattle.plane_geometry.specs.declared.Segment.{Segment}
@@ -15,6 +15,7 @@ use Rattle.plane_geometry.specs.SegmentLaws.{point_is, segment_is}
 use Rattle.crease_model.specs.declared.Piece.{Piece}
 use Rattle.crease_model.specs.Rules.{AllMeetAtEnds}
 use Rattle.crease_model.specs.PartLaws.{ends_lie, on_covering}
+use Rattle.plane_geometry.specs.Common.{is_parallel}
 use Rattle.line_split.specs.Cuts.{is_meeting_point}
 use Rattle.line_split.specs.MemberLaws.{Member, any_member, member_any}
 use Rattle.crease_store.specs.Added.{covers, is_vertex}
@@ -81,7 +82,7 @@ between_same v w s e b =
 pub data IsVertex (old : List Piece) (s : Stretch) (v : Position) : Type 0 where
   new_end : is_end v s ≡ true → IsVertex old s v
   old_end : (p : Piece) → Member old p → is_end v (stretch_of p.segment) ≡ true → IsVertex old s v
-  meeting : (p : Piece) → Member old p → is_on v s ≡ true → is_on v (stretch_of p.segment) ≡ true → IsVertex old s v
+  meeting : (p : Piece) → Member old p → is_on v s ≡ true → is_on v (stretch_of p.segment) ≡ true → is_parallel s (stretch_of p.segment) ≡ false → IsVertex old s v
 
 pub vertex_parts : (old : List Piece) (s : Stretch) (v : Position) → is_vertex old s v ≡ true → IsVertex old s v
 vertex_parts old s v e =
@@ -90,9 +91,9 @@ vertex_parts old s v e =
       | inr r ↦ (let w = any_member (λ (p : Piece). is_end v (stretch_of p.segment) || is_meeting_point v s (stretch_of p.segment)) old r in
           elim (or_cases (is_end v (stretch_of (w.0).segment)) (is_meeting_point v s (stretch_of (w.0).segment)) w.2) [
             | inl l ↦ old_end w.0 w.1 l
-            | inr t ↦ (let k = and_parts (is_on v s && is_on v (stretch_of (w.0).segment)) _ t in
+            | inr t ↦ (let k = and_parts (is_on v s && is_on v (stretch_of (w.0).segment)) (not (is_parallel s (stretch_of (w.0).segment))) t in
                 let l = and_parts (is_on v s) (is_on v (stretch_of (w.0).segment)) k.0 in
-                meeting w.0 w.1 l.0 l.1)
+                meeting w.0 w.1 l.0 l.1 (not-true _ k.1))
           ])
     ]
 
@@ -117,7 +118,7 @@ module _ (old : List Piece) (meetings : AllMeetAtEnds old) where
       elim (vertex_parts old s v e) [
         | new_end l ↦ end_lies v s l
         | old_end p m l ↦ absurd (by_old p l (members_meet old p u meetings m at))
-        | meeting p m on_s on_p ↦ on_s
+        | meeting p m on_s on_p apart ↦ on_s
       ]
     where
       no_end : is_end v (stretch_of u.segment) ≡ true → ⊥

@@ -21,6 +21,7 @@ pub mod Searching
 pub mod MergeCover
 pub mod OwnPieces
 pub mod OwnLines
+pub mod Held
 mod InOneWalk
 mod MergedOnce
 mod OwnCuts

@@ -1,11 +1,12 @@
 -- What is in lists that are put together, and in lists of pieces that meet at ends alone.
-use Rattle.std.proofs.Common.{◌≡◌, ◌⊎◌, inl, inr, List, [], ◌∷◌, map, refl, sym, ap, subst, ◌∙◌}
+use Rattle.std.proofs.Common.{◌≡◌, ℕ, zero, suc, ◌⊎◌, inl, inr, List, [], ◌∷◌, map, take, drop, refl, sym, ap, subst, ◌∙◌}
+use Rattle.std.specs.Prelude.{Contains}
 use Rattle.std.specs.List.{flat_map}
 use Rattle.plane_geometry.specs.Stretch.{MeetAtEnds}
 use Rattle.plane_geometry.specs.SegmentView.{stretch_of}
 use Rattle.crease_model.specs.declared.Piece.{Piece}
 use Rattle.crease_model.specs.Rules.{AllMeetAtEnds}
-use Rattle.line_split.specs.MemberLaws.{Member, all_member, member_left, member_right, member_either}
+use Rattle.line_split.specs.MemberLaws.{Member, member, contained, all_member, member_left, member_right, member_either}
 
 -- ---- any list
 
@@ -13,6 +14,22 @@ pub member_map : {X A : Type 0} (f : X → A) (xs : List X) (x : X) → Member x
 member_map f [] x m = absurd m
 member_map f (y ∷ ys) x (inl e) = inl (ap f e)
 member_map f (y ∷ ys) x (inr m) = inr (member_map f ys x m)
+
+take_member : {X : Type 0} (n : ℕ) (xs : List X) (z : X) → Member (take n xs) z → Member xs z
+take_member zero xs z m = absurd m
+take_member (suc n) [] z m = absurd m
+take_member (suc n) (x ∷ xs) z (inl e) = inl e
+take_member (suc n) (x ∷ xs) z (inr m) = inr (take_member n xs z m)
+
+drop_member : {X : Type 0} (n : ℕ) (xs : List X) (z : X) → Member (drop n xs) z → Member xs z
+drop_member zero xs z m = m
+drop_member (suc n) [] z m = absurd m
+drop_member (suc n) (x ∷ xs) z m = inr (drop_member n xs z m)
+
+-- what is in a slice of a front
+pub slice_member : {X : Type 0} (length start end : ℕ) (xs : List X) (z : X) → Contains (take length (drop start (take end xs))) z → Contains xs z
+slice_member length start end xs z c =
+    contained xs z (take_member end xs z (drop_member start (take end xs) z (take_member length (drop start (take end xs)) z (member _ z c))))
 
 module _ {X A : Type 0} (f : X → List A) where
   pub member_flat_map : (xs : List X) (x : X) (z : A) → Member xs x → Member (f x) z → Member (flat_map f xs) z

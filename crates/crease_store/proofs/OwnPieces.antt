@@ -45,7 +45,7 @@ module _ (old : List Piece) (kind : Kind) (s : Segment) (meets_old : (p : Piece)
       elim (vertex_parts old (stretch_of s) v e) [
         | new_end l ↦ l
         | old_end p m l ↦ (meets_old p m v on (end_lies v (stretch_of p.segment) l)).0
-        | meeting p m a b ↦ (meets_old p m v a b).0
+        | meeting p m a b apart ↦ (meets_old p m v a b).0
       ]
 
   -- a vertex on an old piece is an end of it
@@ -54,7 +54,7 @@ module _ (old : List Piece) (kind : Kind) (s : Segment) (meets_old : (p : Piece)
       elim (vertex_parts old (stretch_of s) v e) [
         | new_end l ↦ (meets_old u at v (end_lies v (stretch_of s) l) on).1
         | old_end p m l ↦ by_old p l (members_meet old p u meetings m at)
-        | meeting p m a b ↦ (meets_old u at v a on).1
+        | meeting p m a b apart ↦ (meets_old u at v a on).1
       ]
     where
       by_old : (p : Piece) → is_end v (stretch_of p.segment) ≡ true → (p ≡ u) ⊎ MeetAtEnds (stretch_of p.segment) (stretch_of u.segment) → is_end v (stretch_of u.segment) ≡ true

@@ -2,6 +2,7 @@ pub mod Faults
 pub mod Answer
 pub mod InOrder
 pub mod Added
+pub mod Held
 pub mod AddRefusals
 pub mod Adding
 pub mod Changed

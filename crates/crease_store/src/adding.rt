@@ -14,6 +14,7 @@ ghost use Rattle.line_split.specs.Cuts.{cuts_of, touched, untouched};
 ghost use Rattle.line_split.specs.Parts.{parts_of};
 ghost use Rattle.line_split.specs.Points.{is_rising};
 ghost use Rattle.crease_store.specs.Added.{covers, IsAddedBetween};
+ghost use Rattle.crease_store.specs.Held.{is_along_in_kind, GoesOn, IsLedTo, IsHeld};
 ghost use Rattle.crease_store.specs.InOrder.{line_at, with_in_order};
 ghost use Rattle.crease_store.specs.Adding.{add_of, segment_added, edge_added, line_added, crease_added};
 ghost use Rattle.crease_store.specs.Adding.{with_crease, new_parts, uncovered, rest_of, rests_of, if_it_fits};
@@ -155,6 +156,44 @@ fn cut_parts(
     Ok(all)
 }
 
+// Whether a piece has this kind and the direction of the segment.
+fn along(piece: &Piece, kind: Kind, s: &Segment) -> bool
+    ensures { result ≡ is_along_in_kind kind s.now piece.now }
+{
+    piece.kind.same(kind) && piece.segment.dir().number() == s.dir().number()
+}
+
+// Whether it begins at a point, too.
+fn goes_on(piece: &Piece, kind: Kind, s: &Segment, v: &Point) -> bool
+    ensures { IsTrue result → GoesOn kind s.now v.now piece.now }
+{
+    along(piece, kind, s) && *piece.segment.from() == *v
+}
+
+// How far pieces of this kind lead along the segment from its lesser end.
+fn led_to(pieces: &[Piece], kind: Kind, s: &Segment) -> Point
+    ensures { IsLedTo pieces.now kind s.now result }
+{
+    let mut v = *s.from();
+    for piece in pieces {
+        if goes_on(piece, kind, s, &v) {
+            v = *piece.segment.to();
+        }
+    }
+    v
+}
+
+// Whether ascending pieces of this kind cover the segment, from one of its ends to the other. Those that begin
+// at its greater end would lead on beyond it.
+fn is_held(pieces: &[Piece], kind: Kind, s: &Segment) -> bool
+    ensures { IsTrue result → IsHeld pieces.now kind s.now }
+{
+    let end = pieces.partition_point(|piece| piece.segment.from().cmp(s.to()).is_lt());
+    let begun = &pieces[..end];
+    let start = begun.partition_point(|piece| piece.segment.from().cmp(s.from()).is_lt());
+    led_to(&begun[start..], kind, s) == *s.to()
+}
+
 fn add_cut(
     alloc: Global,
     pattern: Pattern,
@@ -184,6 +223,7 @@ fn add_cut(
     Ok(Pattern::of(sheet, pieces, aux))
 }
 
+// One that the pieces hold already takes no more than a look at each of them.
 fn add_crease(
     alloc: Global,
     pattern: Pattern,
@@ -198,6 +238,9 @@ fn add_crease(
     }
     if pattern.sheet().on_border(s) {
         return Err(StoreFault::OnBorder);
+    }
+    if is_held(pattern.pieces(), kind, s) {
+        return Ok(pattern);
     }
     let cutting = cutting_of(alloc, s, pattern.pieces())?;
     add_cut(alloc, pattern, kind, s, &cutting)
