@@ -4,7 +4,7 @@ use Rattle.std.specs.Prelude.{Contains}
 use Rattle.std.proofs.lemmas.Bool.{agree_below, agree_below_at, and_parts, and_from, and_left, or_right, not_from_false, false_from_ne_true, both_ways}
 use Rattle.surd_number.specs.declared.Sgn.{Sgn}
 use Rattle.surd_number.specs.declared.Sgn.TheVariants.{Zero}
-use Rattle.surd_number.specs.SignLaws.{times_sign}
+use Rattle.surd_number.specs.Number.{times_sign}
 use Rattle.plane_geometry.specs.declared.Segment.{Segment}
 use Rattle.plane_geometry.specs.Position.{Position}
 use Rattle.plane_geometry.specs.Direction.{is_zero, is_positive, is_negative, side_of, turn_sign}

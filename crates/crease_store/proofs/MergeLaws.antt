@@ -4,7 +4,7 @@ use Rattle.std.specs.Prelude.{Some, filter}
 use Rattle.std.proofs.lemmas.Bool.{agree_below, agree_below_at, and_from, false≢true}
 use Rattle.surd_number.specs.declared.Sgn.{Sgn}
 use Rattle.surd_number.specs.declared.Sgn.TheVariants.{Zero, Pos}
-use Rattle.surd_number.specs.SignLaws.{times_sign}
+use Rattle.surd_number.specs.Number.{times_sign}
 use Rattle.plane_geometry.specs.declared.Point.{Point}
 use Rattle.plane_geometry.specs.declared.Segment.{Segment}
 use Rattle.plane_geometry.specs.Position.{position_of, is_same_position, vector_of}
