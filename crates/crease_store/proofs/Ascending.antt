@@ -5,8 +5,7 @@ use Rattle.std.specs.Ordering.{is_lt, ordering_then}
 use Rattle.std.proofs.lemmas.Bool.{and_parts, and_from, false≢true}
 use Rattle.surd_number.specs.declared.Sgn.{Sgn}
 use Rattle.surd_number.specs.declared.Sgn.TheVariants.{Neg, Zero, Pos}
-use Rattle.surd_number.specs.Number.{ordering_of}
-use Rattle.surd_number.specs.SignLaws.{opposite_sign}
+use Rattle.surd_number.specs.Number.{ordering_of, opposite_sign}
 use Rattle.plane_geometry.specs.declared.Segment.{Segment}
 use Rattle.plane_geometry.specs.Direction.{is_positive, is_negative}
 use Rattle.plane_geometry.specs.Stretch.{Stretch}

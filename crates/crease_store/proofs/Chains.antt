@@ -14,7 +14,8 @@ use Rattle.crease_model.specs.declared.Piece.{Piece}
 use Rattle.plane_geometry.specs.Order.{is_before}
 use Rattle.crease_model.specs.Kind.{is_same_kind}
 use Rattle.crease_model.specs.KindLaws.{same_kind_is}
-use Rattle.crease_store.specs.Merged.{are_alike, begins_at, arrives_at, single, only_from, only_to, is_loose, next_piece, last_piece, IsJoined, IsChain, last_in_chain}
+use Rattle.crease_store.specs.Merged.{are_alike, ends_at, single, only_at, is_loose, next_piece, last_piece, IsJoined, IsChain, last_in_chain}
+use Rattle.crease_store.specs.Rising.{beginning_of, arrival_of}
 use Rattle.line_split.specs.MemberLaws.{Member, member, contained, filter_member, member_filter}
 use Rattle.plane_geometry.specs.OrderLaws.{before_trans, before_irreflexive}
 use Rattle.crease_store.proofs.Ascending.{before_by_from}
@@ -60,17 +61,17 @@ only_parts test pieces p e =
 -- ---- loose vertices
 
 pub record IsLooseAt (pieces : List Piece) (v : Point) (p q : Piece) : Type 0 where
-  pub arrives : IsOnly (arrives_at v) pieces p
-  pub leaves : IsOnly (begins_at v) pieces q
-  pub next : only_from pieces v ≡ Some q
+  pub arrives : IsOnly (ends_at arrival_of v) pieces p
+  pub leaves : IsOnly (ends_at beginning_of v) pieces q
+  pub next : only_at beginning_of pieces v ≡ Some q
   pub kind : p.kind ≡ q.kind
   pub direction : direction_number p.segment ≡ direction_number q.segment
 
 pub loose_parts : (pieces : List Piece) (v : Point) → is_loose pieces v ≡ true → (p : Piece) × (q : Piece) × IsLooseAt pieces v p q
 unfolding is_loose
-loose_parts pieces v e = go (only_to pieces v) (only_from pieces v) refl refl e
+loose_parts pieces v e = go (only_at arrival_of pieces v) (only_at beginning_of pieces v) refl refl e
   where
-    go : (o r : Option Piece) → only_to pieces v ≡ o → only_from pieces v ≡ r → are_alike o r ≡ true → (p : Piece) × (q : Piece) × IsLooseAt pieces v p q
+    go : (o r : Option Piece) → only_at arrival_of pieces v ≡ o → only_at beginning_of pieces v ≡ r → are_alike o r ≡ true → (p : Piece) × (q : Piece) × IsLooseAt pieces v p q
     go None r f g h = absurd (false≢true h)
     go (Some p) None f g h = absurd (false≢true h)
     go (Some p) (Some q) f g h =
@@ -78,8 +79,8 @@ loose_parts pieces v e = go (only_to pieces v) (only_from pieces v) refl refl e
           p,
           q,
           record {
-            arrives = only_parts (arrives_at v) pieces p f;
-            leaves = only_parts (begins_at v) pieces q g;
+            arrives = only_parts (ends_at arrival_of v) pieces p f;
+            leaves = only_parts (ends_at beginning_of v) pieces q g;
             next = g;
             kind = same_kind_is p.kind q.kind k.0;
             direction = eqb-true (direction_number p.segment) (direction_number q.segment) k.1;
@@ -109,7 +110,7 @@ next_joined pieces p q m e = go (is_loose pieces v) refl e
     v : Point
     v = greater_end p.segment
 
-    go : (b : Bool) → is_loose pieces v ≡ b → cond b (only_from pieces v) None ≡ Some q → IsJoined pieces p q
+    go : (b : Bool) → is_loose pieces v ≡ b → cond b (only_at beginning_of pieces v) None ≡ Some q → IsJoined pieces p q
     go false f g = some_or_none q g
     go true f g =
         let w = loose_parts pieces v f in
@@ -124,7 +125,7 @@ none_next pieces p e = go (is_loose pieces v) refl e
     v : Point
     v = greater_end p.segment
 
-    go : (b : Bool) → is_loose pieces v ≡ b → cond b (only_from pieces v) None ≡ None → is_loose pieces v ≡ false
+    go : (b : Bool) → is_loose pieces v ≡ b → cond b (only_at beginning_of pieces v) None ≡ None → is_loose pieces v ≡ false
     go false f g = f
     go true f g = let w = loose_parts pieces v f in some_or_none (w.1) (sym g ∙ (w.2).next)
 

@@ -2,7 +2,7 @@
 use Rattle.std.proofs.Common.{◌≡◌, true, false, not, ◌&&◌, ◌||◌, ◌⊎◌, inl, inr, List, sym, ap, subst, ◌∙◌}
 use Rattle.std.proofs.lemmas.Bool.{and_parts, and_from, or_cases, or_left, or_right, not-true}
 use Rattle.surd_number.specs.declared.Sgn.TheVariants.{Neg, Zero, Pos}
-use Rattle.surd_number.specs.SignLaws.{opposite_sign}
+use Rattle.surd_number.specs.Number.{opposite_sign}
 use Rattle.plane_geometry.specs.declared.Segment.{Segment}
 use Rattle.plane_geometry.specs.Position.{Position}
 use Rattle.plane_geometry.specs.SegmentView.{stretch_of}

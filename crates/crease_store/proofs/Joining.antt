@@ -2,10 +2,10 @@
 use Rattle.std.proofs.Common.{◌≡◌, ℕ, true, false, ◌⊎◌, inl, inr, [], ◌∷◌, pos, refl, sym, ap, ◌∙◌}
 use Rattle.surd_number.specs.declared.Sgn.{Sgn}
 use Rattle.surd_number.specs.declared.Sgn.TheVariants.{Neg, Zero, Pos}
-use Rattle.surd_number.specs.Number.{Number, IsSame, whole, sum_of, difference_of, product_of}
+use Rattle.surd_number.specs.Number.{Number, IsSame, whole, sum_of, difference_of, product_of, opposite_sign}
 use Rattle.surd_number.specs.RingTool.{◌⊕◌, ◌⊝◌, ◌⊗◌, con, v0, v1, v2, v3, v4, v5}
 use Rattle.surd_number.specs.NumberLaws.{number_ring_from_two}
-use Rattle.surd_number.specs.SignLaws.{opposite_sign, sign_of-sum_positive}
+use Rattle.surd_number.specs.SignLaws.{sign_of-sum_positive}
 use Rattle.plane_geometry.specs.declared.Segment.{Segment}
 use Rattle.plane_geometry.specs.Position.{Position, position_of}
 use Rattle.plane_geometry.specs.Direction.{direction_vector, side_of, is_positive, is_negative, is_along}

@@ -4,14 +4,14 @@ use Rattle.std.specs.Prelude.{Contains}
 use Rattle.std.proofs.lemmas.Bool.{agree_below, agree_below_at, and_parts, and_from, and_left, or_right, not_from_false, false_from_ne_true, both_ways}
 use Rattle.surd_number.specs.declared.Sgn.{Sgn}
 use Rattle.surd_number.specs.declared.Sgn.TheVariants.{Zero}
-use Rattle.surd_number.specs.SignLaws.{times_sign}
+use Rattle.surd_number.specs.Number.{times_sign}
 use Rattle.plane_geometry.specs.declared.Segment.{Segment}
 use Rattle.plane_geometry.specs.Position.{Position}
-use Rattle.plane_geometry.specs.Direction.{is_zero, is_positive, is_negative, side_of}
+use Rattle.plane_geometry.specs.Direction.{is_zero, is_positive, is_negative, side_of, turn_sign}
 use Rattle.plane_geometry.specs.SegmentView.{stretch_of}
 use Rattle.plane_geometry.specs.Stored.{IsStretch}
 use Rattle.plane_geometry.specs.Stretch.{Stretch, MeetAtEnds, is_between, is_end, is_on, is_parted, is_crossing, has_same_ends, ends_at_ends}
-use Rattle.plane_geometry.specs.SideLaws.{order_of, turn_sign, product_by_zero}
+use Rattle.plane_geometry.specs.SideLaws.{order_of, product_by_zero}
 use Rattle.plane_geometry.specs.StretchLaws.{zero_is, on_parts}
 use Rattle.plane_geometry.specs.CommonPointLaws.{LiesBetween, between_from_parts, crossing_point, meeting_is, side_on_line}
 use Rattle.crease_model.specs.declared.Kind.{Kind}

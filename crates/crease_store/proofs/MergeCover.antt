@@ -24,7 +24,7 @@ use Rattle.crease_store.proofs.Chains.{IsLooseAt, Reaches, same_point, point_sel
 use Rattle.crease_store.proofs.MergedPieces.{ChainSegment, chain_segment, IsOne, merged_one, reached_there, reaches_then}
 use Rattle.crease_store.proofs.Joining.{joined, joined_from, joined_to_end, joined_direction, first_on_joined, second_on_joined}
 use Rattle.crease_store.proofs.Merges.{IsFrom, from_merged, merged_there, not_itself, two_meet}
-use Rattle.crease_store.proofs.MergeLaws.{ends_at, loose_from}
+use Rattle.crease_store.proofs.MergeLaws.{either_end, loose_from}
 
 -- ---- each piece is on a chain
 
@@ -294,7 +294,7 @@ module _ (pattern : PatternView) (rules : IsPattern pattern) where
     unfolding old
     was_loose =
         loose_from old rules.order.0 v one_a.last from_b.first (reached_there old from_a.first one_a.last from_a.there one_a.whole.chain) from_b.there a_to b_from
-        (λ z m e. elim (ends_at v z.segment e) [ inl f ↦ inr (leaving z m f) | inr f ↦ inl (arriving z m f) ]) direction kind
+        (λ z m e. elim (either_end v z.segment e) [ inl f ↦ inr (leaving z m f) | inr f ↦ inl (arriving z m f) ]) direction kind
 
 pub merge_leaves_none_loose : (pattern : PatternView) (v : Point) → IsPattern pattern → IsFalse (is_loose (merge_of pattern).pieces v)
 unfolding merge_of old new

@@ -4,12 +4,11 @@ use Rattle.std.specs.Prelude.{Some, filter}
 use Rattle.std.proofs.lemmas.Bool.{agree_below, agree_below_at, and_from, false≢true}
 use Rattle.surd_number.specs.declared.Sgn.{Sgn}
 use Rattle.surd_number.specs.declared.Sgn.TheVariants.{Zero, Pos}
-use Rattle.surd_number.specs.SignLaws.{times_sign}
+use Rattle.surd_number.specs.Number.{times_sign}
 use Rattle.plane_geometry.specs.declared.Point.{Point}
 use Rattle.plane_geometry.specs.declared.Segment.{Segment}
 use Rattle.plane_geometry.specs.Position.{position_of, is_same_position, vector_of}
-use Rattle.plane_geometry.specs.Direction.{direction_vector, is_positive, is_zero}
-use Rattle.plane_geometry.specs.DirectionLaws.{opposite_number}
+use Rattle.plane_geometry.specs.Direction.{direction_vector, is_positive, is_zero, opposite_number}
 use Rattle.plane_geometry.specs.Stretch.{is_end}
 use Rattle.plane_geometry.specs.SegmentView.{stretch_of, lesser_end, greater_end, direction_number}
 use Rattle.plane_geometry.specs.SideLaws.{order_of, order_self, lex_sign, square_sign, along_lex}
@@ -19,7 +18,8 @@ use Rattle.crease_model.specs.Rules.{IsPattern, is_ascending, segments_of}
 use Rattle.crease_model.specs.View.{PatternView}
 use Rattle.crease_model.specs.Kind.{is_same_kind}
 use Rattle.crease_model.specs.KindLaws.{same_kind_self}
-use Rattle.crease_store.specs.Merged.{are_alike, begins_at, arrives_at, single, only_from, only_to, is_loose, merge_of, direction_from, IsLoose, IsMerged}
+use Rattle.crease_store.specs.Merged.{are_alike, ends_at, single, only_at, is_loose, merge_of, direction_from, IsLoose, IsMerged}
+use Rattle.crease_store.specs.Rising.{beginning_of, arrival_of}
 use Rattle.crease_store.specs.MergedLaws.{LooseIsTwo, MergedIsOne}
 use Rattle.line_split.specs.MemberLaws.{Member, member, contained, filter_member, member_filter}
 use Rattle.crease_store.proofs.Ascending.{one_ascending, filter_ascends}
@@ -97,8 +97,8 @@ end_at_lesser v s e = end_from (position_of v) (stretch_of s) (ap (λ (t : Point
 pub end_at_greater : (v : Point) (s : Segment) → greater_end s ≡ v → is_end (position_of v) (stretch_of s) ≡ true
 end_at_greater v s e = end_to (position_of v) (stretch_of s) (ap (λ (t : Point). order_of (position_of t) (stretch_of s).to) (sym e) ∙ order_self (stretch_of s).to)
 
-pub ends_at : (v : Point) (s : Segment) → is_end (position_of v) (stretch_of s) ≡ true → (lesser_end s ≡ v) ⊎ (greater_end s ≡ v)
-ends_at v s e =
+pub either_end : (v : Point) (s : Segment) → is_end (position_of v) (stretch_of s) ≡ true → (lesser_end s ≡ v) ⊎ (greater_end s ≡ v)
+either_end v s e =
     elim (end_points (position_of v) s e) [
       | inl f ↦ inl (sym (same_point v (lesser_end s) (same_is (position_of v) (position_of (lesser_end s)) ∙ ap is_zero f)))
       | inr f ↦ inr (sym (same_point v (greater_end s) (same_is (position_of v) (position_of (greater_end s)) ∙ ap is_zero f)))
@@ -119,7 +119,7 @@ loose_words pieces v e =
       two = λ same. apart q.segment (q_at ∙ sym p_at ∙ ap (λ (t : Piece). greater_end t.segment) same);
       one_ends = end_at_greater v p.segment p_at;
       other_ends = end_at_lesser v q.segment q_at;
-      no_third = λ z c f. elim (ends_at v z.segment f) [
+      no_third = λ z c f. elim (either_end v z.segment f) [
         | inl g ↦ inr ((w.2).leaves.alone z (member pieces z c) (point_self (lesser_end z.segment) v g))
         | inr g ↦ inl ((w.2).arrives.alone z (member pieces z c) (point_self (greater_end z.segment) v g))
       ];
@@ -140,12 +140,12 @@ module _ (pieces : List Piece) (up : is_ascending (segments_of pieces) ≡ true)
   pub loose_from : (p q : Piece) → Member pieces p → Member pieces q → greater_end p.segment ≡ v → lesser_end q.segment ≡ v → ((z : Piece) → Member pieces z → is_end (position_of v) (stretch_of z.segment) ≡ true → (z ≡ p) ⊎ (z ≡ q)) → direction_number p.segment ≡ direction_number q.segment → p.kind ≡ q.kind → is_loose pieces v ≡ true
   unfolding is_loose
   loose_from p q m n p_at q_at no_third direction kind =
-      let to : only_to pieces v ≡ Some p =
-      single_from (arrives_at v) pieces p up m (point_self _ v p_at) (λ z k e.
+      let to : only_at arrival_of pieces v ≡ Some p =
+      single_from (ends_at arrival_of v) pieces p up m (point_self _ v p_at) (λ z k e.
       let z_at = same_point (greater_end z.segment) v e in
       elim (no_third z k (end_at_greater v z.segment z_at)) [ inl f ↦ f | inr f ↦ absurd (apart q.segment (q_at ∙ sym z_at ∙ ap (λ (t : Piece). greater_end t.segment) f)) ]) in
-      let from : only_from pieces v ≡ Some q =
-      single_from (begins_at v) pieces q up n (point_self _ v q_at) (λ z k e.
+      let from : only_at beginning_of pieces v ≡ Some q =
+      single_from (ends_at beginning_of v) pieces q up n (point_self _ v q_at) (λ z k e.
       let z_at = same_point (lesser_end z.segment) v e in
       elim (no_third z k (end_at_lesser v z.segment z_at)) [ inl f ↦ absurd (apart p.segment (ap (λ (t : Piece). lesser_end t.segment) (sym f) ∙ z_at ∙ sym p_at)) | inr f ↦ f ]) in
       ap₂ are_alike to from
@@ -153,7 +153,7 @@ module _ (pieces : List Piece) (up : is_ascending (segments_of pieces) ≡ true)
       (eq-eqb (direction_number p.segment) (direction_number q.segment) direction)
 
   loose_from_words : IsLoose pieces v → is_loose pieces v ≡ true
-  loose_from_words h = go (ends_at v h.one.segment h.one_ends) (ends_at v h.other.segment h.other_ends)
+  loose_from_words h = go (either_end v h.one.segment h.one_ends) (either_end v h.other.segment h.other_ends)
     where
       s : Segment
       s = h.one.segment

@@ -7,14 +7,14 @@ use Rattle.std.proofs.lemmas.Bool.{and_parts, and_from, false≢true, false_from
 use Rattle.std.proofs.Common.{leb-true, leb-false}
 use Rattle.surd_number.specs.declared.Sgn.{Sgn}
 use Rattle.surd_number.specs.declared.Sgn.TheVariants.{Neg, Zero, Pos}
-use Rattle.surd_number.specs.SignLaws.{opposite_sign}
+use Rattle.surd_number.specs.Number.{opposite_sign}
 use Rattle.plane_geometry.specs.declared.Point.{Point}
 use Rattle.plane_geometry.specs.declared.Segment.{Segment}
 use Rattle.plane_geometry.specs.declared.SegmentFault.{SegmentFault}
 use Rattle.plane_geometry.specs.declared.SegmentFault.TheVariants as none_between
 use Rattle.plane_geometry.specs.Position.{position_of, compare_positions, is_same_position}
-use Rattle.plane_geometry.specs.Direction.{is_positive, is_along}
-use Rattle.plane_geometry.specs.DirectionLaws.{opposite_number, along_unique, along_back}
+use Rattle.plane_geometry.specs.Direction.{is_positive, is_along, opposite_number}
+use Rattle.plane_geometry.specs.DirectionLaws.{along_unique, along_back}
 use Rattle.plane_geometry.specs.Ends.{HasNoDirection, HaveBadDirection}
 use Rattle.plane_geometry.specs.SegmentOf.{segment_from, segment_of}
 use Rattle.plane_geometry.specs.SegmentView.{stretch_of}

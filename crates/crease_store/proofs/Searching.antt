@@ -11,7 +11,7 @@ use Rattle.std.proofs.lemmas.List.Sums.{length-filter}
 use Rattle.std.proofs.lemmas.List.Sorted.{IsPermutation-sym, Contains-permutation, sum_by-IsPermutation}
 use Rattle.surd_number.specs.declared.Sgn.{Sgn}
 use Rattle.surd_number.specs.declared.Sgn.TheVariants.{Neg, Zero, Pos}
-use Rattle.surd_number.specs.SignLaws.{opposite_sign}
+use Rattle.surd_number.specs.Number.{opposite_sign}
 use Rattle.plane_geometry.specs.declared.Point.{Point}
 use Rattle.plane_geometry.specs.Position.{position_of, is_same_position}
 use Rattle.plane_geometry.specs.Direction.{is_positive, is_negative, is_zero}
@@ -19,7 +19,7 @@ use Rattle.plane_geometry.specs.SideLaws.{order_of, order_turned}
 use Rattle.plane_geometry.specs.StretchLaws.{before_is, same_is, positive_is, then_before}
 use Rattle.crease_model.specs.declared.Piece.{Piece}
 use Rattle.crease_model.specs.Rules.{is_ascending, segments_of}
-use Rattle.crease_store.specs.Merged.{begins_at, arrives_at, single, only_from, only_to}
+use Rattle.crease_store.specs.Merged.{ends_at, single, only_at}
 use Rattle.crease_store.specs.Rising.{beginning_of, arrival_of, comes_before, is_sorted_by, first_alone, AreSorted}
 use Rattle.line_split.specs.MemberLaws.{Member, member, contained, filter_member, member_filter}
 use Rattle.crease_store.proofs.Ascending.{first_before, before_begins, ascending_rest}
@@ -109,22 +109,19 @@ module _ (at : Piece → Point) where
   within_parts v (x ∷ xs) up (suc i) zero d low high e = absurd (omega arith)
   within_parts v (x ∷ xs) up (suc i) (suc j) d low high e = within_parts v xs (rising_rest x xs up) i j d (omega arith) (omega arith) e
 
-  abbrev is_at : Point → Piece → Bool
-  is_at v p = is_same_position (position_of (at p)) (position_of v)
-
   -- nothing of a list is at v where its first piece comes after it
-  none_at : (v : Point) (x : Piece) (xs : List Piece) → is_sorted_by at (x ∷ xs) ≡ true → comes_before (at x) v ≡ false → is_at v x ≡ false → filter (is_at v) xs ≡ []
+  none_at : (v : Point) (x : Piece) (xs : List Piece) → is_sorted_by at (x ∷ xs) ≡ true → comes_before (at x) v ≡ false → ends_at at v x ≡ false → filter (ends_at at v) xs ≡ []
   none_at v x [] up e f = refl
   none_at v x (y ∷ ys) up e f =
       let next = rising_next x y ys up in
-      let not_at : is_at v y ≡ false = later_not_same (at x) (at y) v e f next in
+      let not_at : ends_at at v y ≡ false = later_not_same (at x) (at y) v e f next in
       let not_before : comes_before (at y) v ≡ false = false_from_ne_true (comes_before (at y) v) (λ h. true≢false (sym (before_through (at x) (at y) v next h) ∙ e)) in
-      ap (λ b. cond b (y ∷ filter (is_at v) ys) (filter (is_at v) ys)) not_at ∙ none_at v y ys (rising_rest x (y ∷ ys) up) not_before not_at
+      ap (λ b. cond b (y ∷ filter (ends_at at v) ys) (filter (ends_at at v) ys)) not_at ∙ none_at v y ys (rising_rest x (y ∷ ys) up) not_before not_at
 
-  single_first : (v : Point) (xs : List Piece) → is_sorted_by at xs ≡ true → ((d : Piece) → 0 < length xs → comes_before (at (get_or xs 0 d)) v ≡ false) → single (filter (is_at v) xs) ≡ first_alone (is_at v) xs
+  single_first : (v : Point) (xs : List Piece) → is_sorted_by at xs ≡ true → ((d : Piece) → 0 < length xs → comes_before (at (get_or xs 0 d)) v ≡ false) → single (filter (ends_at at v) xs) ≡ first_alone (ends_at at v) xs
   single_first v [] up start = refl
-  single_first v (x ∷ []) up start = elim (is_at v x) as (λ b. single (cond b (x ∷ []) []) ≡ cond (b && not false) (Some x) None) [ true ↦ refl | false ↦ refl ]
-  single_first v (x ∷ y ∷ ys) up start = go (is_at v x) (is_at v y) refl refl
+  single_first v (x ∷ []) up start = elim (ends_at at v x) as (λ b. single (cond b (x ∷ []) []) ≡ cond (b && not false) (Some x) None) [ true ↦ refl | false ↦ refl ]
+  single_first v (x ∷ y ∷ ys) up start = go (ends_at at v x) (ends_at at v y) refl refl
     where
       first : comes_before (at x) v ≡ false
       first = start x (omega arith)
@@ -132,20 +129,20 @@ module _ (at : Piece → Point) where
       second : comes_before (at y) v ≡ false
       second = false_from_ne_true (comes_before (at y) v) (λ h. true≢false (sym (before_through (at x) (at y) v (rising_next x y ys up) h) ∙ first))
 
-      is : (a b : Bool) → is_at v x ≡ a → is_at v y ≡ b → single (kept a b x y (filter (is_at v) ys)) ≡ cond (a && not b) (Some x) None → single (filter (is_at v) (x ∷ y ∷ ys)) ≡ first_alone (is_at v) (x ∷ y ∷ ys)
-      is a b e f h = ap₂ (λ s t. single (kept s t x y (filter (is_at v) ys))) e f ∙ h ∙ sym (ap₂ (λ s t. cond (s && not t) (Some x) None) e f)
+      is : (a b : Bool) → ends_at at v x ≡ a → ends_at at v y ≡ b → single (kept a b x y (filter (ends_at at v) ys)) ≡ cond (a && not b) (Some x) None → single (filter (ends_at at v) (x ∷ y ∷ ys)) ≡ first_alone (ends_at at v) (x ∷ y ∷ ys)
+      is a b e f h = ap₂ (λ s t. single (kept s t x y (filter (ends_at at v) ys))) e f ∙ h ∙ sym (ap₂ (λ s t. cond (s && not t) (Some x) None) e f)
 
-      go : (a b : Bool) → is_at v x ≡ a → is_at v y ≡ b → single (filter (is_at v) (x ∷ y ∷ ys)) ≡ first_alone (is_at v) (x ∷ y ∷ ys)
+      go : (a b : Bool) → ends_at at v x ≡ a → ends_at at v y ≡ b → single (filter (ends_at at v) (x ∷ y ∷ ys)) ≡ first_alone (ends_at at v) (x ∷ y ∷ ys)
       go true true e f = is true true e f refl
       go true false e f = is true false e f (ap (λ l. single (x ∷ l)) (none_at v y ys (rising_rest x (y ∷ ys) up) second f))
       go false true e f = absurd (true≢false (sym f ∙ later_not_same (at x) (at y) v first e (rising_next x y ys up)))
       go false false e f = is false false e f (ap single (none_at v y ys (rising_rest x (y ∷ ys) up) second f))
 
-  pub single_found : (v : Point) (xs : List Piece) (i : ℕ) → is_sorted_by at xs ≡ true → i ≤ length xs → IsPartitionPoint (λ p. comes_before (at p) v ≡ true) (λ p. comes_before (at p) v ≡ false) xs i → single (filter (is_at v) xs) ≡ first_alone (is_at v) (drop i xs)
+  pub single_found : (v : Point) (xs : List Piece) (i : ℕ) → is_sorted_by at xs ≡ true → i ≤ length xs → IsPartitionPoint (λ p. comes_before (at p) v ≡ true) (λ p. comes_before (at p) v ≡ false) xs i → single (filter (ends_at at v) xs) ≡ first_alone (ends_at at v) (drop i xs)
   single_found v xs zero up few parts = single_first v xs up (λ d some. parts.1 0 d (omega arith) some)
   single_found v [] (suc i) up few parts = absurd (omega arith)
   single_found v (x ∷ xs) (suc i) up few parts =
-      ap (λ b. single (cond b (x ∷ filter (is_at v) xs) (filter (is_at v) xs))) (before_not_same (at x) v (parts.0 0 x (omega arith) (omega arith)))
+      ap (λ b. single (cond b (x ∷ filter (ends_at at v) xs) (filter (ends_at at v) xs))) (before_not_same (at x) v (parts.0 0 x (omega arith) (omega arith)))
       ∙ single_found v xs i (rising_rest x xs up) (omega arith) (λ k d low high. parts.0 (suc k) d (omega arith) (omega arith), λ k d low high. parts.1 (suc k) d (omega arith) (omega arith))
 
   -- from a list sorted by that point
@@ -191,13 +188,5 @@ single_permuted test xs ys h =
     (λ z m. let w = filter_member test ys z m in
     member_filter test xs z (member xs z (Contains-permutation ys xs z (IsPermutation-sym xs ys h) (contained ys z w.0))) w.1)
 
--- ---- sorted ends
-
-pub only_from_found : (pieces : List Piece) (v : Point) (i : ℕ) → is_sorted_by beginning_of pieces ≡ true → i ≤ length pieces → IsPartitionPoint (λ p. comes_before (beginning_of p) v ≡ true) (λ p. comes_before (beginning_of p) v ≡ false) pieces i → only_from pieces v ≡ first_alone (begins_at v) (drop i pieces)
-only_from_found pieces v i up few parts = single_found beginning_of v pieces i up few parts
-
-pub only_to_found : (pieces : List Piece) (v : Point) (i : ℕ) → is_sorted_by arrival_of pieces ≡ true → i ≤ length pieces → IsPartitionPoint (λ p. comes_before (arrival_of p) v ≡ true) (λ p. comes_before (arrival_of p) v ≡ false) pieces i → only_to pieces v ≡ first_alone (arrives_at v) (drop i pieces)
-only_to_found pieces v i up few parts = single_found arrival_of v pieces i up few parts
-
-pub only_to_same : (pieces arrivals : List Piece) (v : Point) → AreSorted pieces arrivals → only_to arrivals v ≡ only_to pieces v
-only_to_same pieces arrivals v h = single_permuted (arrives_at v) pieces arrivals h.same
+pub only_arrival : (pieces arrivals : List Piece) (v : Point) → AreSorted pieces arrivals → only_at arrival_of arrivals v ≡ only_at arrival_of pieces v
+only_arrival pieces arrivals v h = single_permuted (ends_at arrival_of v) pieces arrivals h.same

@@ -6,7 +6,7 @@ use Rattle.std.specs.Prelude.{unwrap_or, if◌then◌else◌}
 use Rattle.plane_geometry.specs.declared.Point.{Point}
 use Rattle.plane_geometry.specs.declared.Segment.{Segment}
 use Rattle.plane_geometry.specs.Position.{position_of, is_same_position}
-use Rattle.plane_geometry.specs.DirectionLaws.{opposite_number}
+use Rattle.plane_geometry.specs.Direction.{opposite_number}
 use Rattle.plane_geometry.specs.Stretch.{is_end}
 use Rattle.plane_geometry.specs.SegmentOf.{segment_of}
 use Rattle.plane_geometry.specs.SegmentView.{stretch_of, lesser_end, greater_end, direction_number}
@@ -15,12 +15,11 @@ use Rattle.crease_model.specs.declared.Piece.{Piece}
 use Rattle.crease_model.specs.Rules.{is_ascending, segments_of}
 use Rattle.crease_model.specs.View.{PatternView}
 use Rattle.crease_store.specs.InOrder.{segment_at, with_in_order}
+use Rattle.crease_store.specs.Rising.{beginning_of, arrival_of}
 
-abbrev pub begins_at : Point → Piece → Bool
-begins_at v p = is_same_position (position_of (lesser_end p.segment)) (position_of v)
-
-abbrev pub arrives_at : Point → Piece → Bool
-arrives_at v p = is_same_position (position_of (greater_end p.segment)) (position_of v)
+-- this end of p is v
+abbrev pub ends_at : (Piece → Point) → Point → Piece → Bool
+ends_at end v p = is_same_position (position_of (end p)) (position_of v)
 
 -- the piece of a list of one
 abbrev pub single : List Piece → Option Piece
@@ -28,12 +27,9 @@ single [] = None
 single (p ∷ []) = Some p
 single (p ∷ q ∷ ps) = None
 
--- the only piece that begins at v, and the only one that arrives there
-abbrev pub only_from : List Piece → Point → Option Piece
-only_from pieces v = single (filter (begins_at v) pieces)
-
-abbrev pub only_to : List Piece → Point → Option Piece
-only_to pieces v = single (filter (arrives_at v) pieces)
+-- the only piece of which this end is v
+abbrev pub only_at : (Piece → Point) → List Piece → Point → Option Piece
+only_at end pieces v = single (filter (ends_at end v) pieces)
 
 -- of one direction and kind
 abbrev pub is_alike : Piece → Piece → Bool
@@ -47,12 +43,13 @@ are_alike (Some p) (Some q) = is_alike p q
 -- exactly two pieces end at v, in opposite directions and of one kind: since each piece runs from its lesser
 -- end to its greater, one arrives at v, and one goes on from there in its direction
 unfoldable pub is_loose : List Piece → Point → Bool
-is_loose pieces v = are_alike (only_to pieces v) (only_from pieces v)
+is_loose pieces v = are_alike (only_at arrival_of pieces v) (only_at beginning_of pieces v)
 
 -- the piece that goes on from p, if p ends at a loose vertex
 unfoldable pub next_piece : List Piece → Piece → Option Piece
 next_piece pieces p =
-    if is_loose pieces (greater_end p.segment) then only_from pieces (greater_end p.segment) else None
+    if is_loose pieces (greater_end p.segment) then only_at beginning_of pieces (greater_end p.segment)
+    else None
 
 -- the piece that is reached from p in at most n steps
 abbrev pub last_piece : ℕ → List Piece → Piece → Piece

@@ -7,12 +7,18 @@ use Rattle.plane_geometry.specs.declared.Point.{Point}
 use Rattle.plane_geometry.specs.Position.{position_of, compare_positions}
 use Rattle.plane_geometry.specs.SegmentView.{lesser_end, greater_end}
 use Rattle.crease_model.specs.declared.Piece.{Piece}
+use Rattle.crease_store.specs.declared.merging.End.{End}
+use Rattle.crease_store.specs.declared.merging.End.TheVariants.{Lesser, Greater}
 
 abbrev pub beginning_of : Piece → Point
 beginning_of p = lesser_end p.segment
 
 abbrev pub arrival_of : Piece → Point
 arrival_of p = greater_end p.segment
+
+abbrev pub end_of : End → Piece → Point
+end_of Lesser = beginning_of
+end_of Greater = arrival_of
 
 abbrev pub comes_before : Point → Point → Bool
 comes_before p q = is_lt (compare_positions (position_of p) (position_of q))

@@ -183,12 +183,13 @@ fn led_to(pieces: &[Piece], kind: Kind, s: &Segment) -> Point
     v
 }
 
-// Whether ascending pieces of this kind cover the segment, from one of its ends to the other.
+// Whether ascending pieces of this kind cover the segment, from one of its ends to the other. Those that begin
+// at its greater end would lead on beyond it.
 fn is_held(pieces: &[Piece], kind: Kind, s: &Segment) -> bool
-    requires { IsTrue (is_ascending (segments_of pieces.now)) }
     ensures { IsTrue result → IsHeld pieces.now kind s.now }
 {
-    let begun = &pieces[..reach_of(pieces, s)];
+    let end = pieces.partition_point(|piece| piece.segment.from().cmp(s.to()).is_lt());
+    let begun = &pieces[..end];
     let start = begun.partition_point(|piece| piece.segment.from().cmp(s.from()).is_lt());
     led_to(&begun[start..], kind, s) == *s.to()
 }

@@ -4,11 +4,11 @@ ghost use Rattle.std.specs.Prelude.{◌≡◌, ◌&&◌, Ok, Contains, IfOk, IsT
 ghost use Rattle.plane_geometry.specs.declared.Point.{Point};
 ghost use Rattle.plane_geometry.specs.SegmentView.{stretch_of};
 ghost use Rattle.crease_model.specs.declared.Piece.{Piece};
-ghost use Rattle.crease_store.specs.Merged.{begins_at, arrives_at, only_from, only_to, is_alike, are_alike};
+ghost use Rattle.crease_store.specs.Merged.{ends_at, only_at, is_alike, are_alike};
 ghost use Rattle.crease_store.specs.Merged.{is_loose, next_piece, last_piece, joined_to, merged_from};
 ghost use Rattle.crease_store.specs.Merged.{merged_among, merge_of, IsMerged};
 ghost use Rattle.crease_model.specs.Rules.{IsPattern, AllMeetAtEnds, is_ascending, segments_of};
-ghost use Rattle.crease_store.specs.Rising.{beginning_of, arrival_of, is_sorted_by, first_passes};
+ghost use Rattle.crease_store.specs.Rising.{end_of, is_sorted_by, first_passes};
 ghost use Rattle.crease_store.specs.Rising.{first_alone, AreSorted};
 ghost use Rattle.crease_store.specs.Added.{covers};
 ghost use Rattle.crease_store.specs.Answer.{IsAnswer};
@@ -19,42 +19,44 @@ use crease_model::{Pattern, Piece};
 use plane_geometry::{Point, Segment};
 use std::alloc::{AllocError, Global};
 
-fn begins_at(v: &Point, piece: &Piece) -> bool
-    ensures { result ≡ begins_at v.now piece.now }
-{
-    piece.segment.from().cmp(v).is_eq()
+// An end of a piece.
+#[derive(Clone, Copy)]
+enum End {
+    Lesser,
+    Greater,
 }
 
-fn arrives_at(v: &Point, piece: &Piece) -> bool
-    ensures { result ≡ arrives_at v.now piece.now }
+fn end_of<'a>(piece: &'a Piece, end: End) -> &'a Point
+    ensures { result.now ≡ end_of end piece.now }
 {
-    piece.segment.to().cmp(v).is_eq()
+    match end {
+        End::Lesser => piece.segment.from(),
+        End::Greater => piece.segment.to(),
+    }
 }
 
-fn first_begins(v: &Point, pieces: &[Piece]) -> bool
-    ensures { result ≡ first_passes (begins_at v.now) pieces.now }
+fn ends_at(piece: &Piece, end: End, v: &Point) -> bool
+    ensures { result ≡ ends_at (end_of end) v.now piece.now }
+{
+    end_of(piece, end).cmp(v).is_eq()
+}
+
+fn first_ends_at(pieces: &[Piece], end: End, v: &Point) -> bool
+    ensures { result ≡ first_passes (ends_at (end_of end) v.now) pieces.now }
 {
     match pieces.first() {
-        Some(piece) => begins_at(v, piece),
+        Some(piece) => ends_at(piece, end, v),
         None => false,
     }
 }
 
-fn first_arrives(v: &Point, pieces: &[Piece]) -> bool
-    ensures { result ≡ first_passes (arrives_at v.now) pieces.now }
-{
-    match pieces.first() {
-        Some(piece) => arrives_at(v, piece),
-        None => false,
-    }
-}
-
-fn alone_from(v: &Point, pieces: &[Piece]) -> Option<Piece>
-    ensures { result ≡ first_alone (begins_at v.now) pieces.now }
+// The first piece, if it ends at a point and the second doesn't.
+fn alone_at(pieces: &[Piece], end: End, v: &Point) -> Option<Piece>
+    ensures { result ≡ first_alone (ends_at (end_of end) v.now) pieces.now }
 {
     match pieces.split_first() {
         Some((piece, rest)) => {
-            if begins_at(v, piece) && !first_begins(v, rest) {
+            if ends_at(piece, end, v) && !first_ends_at(rest, end, v) {
                 Some(*piece)
             } else {
                 None
@@ -64,37 +66,13 @@ fn alone_from(v: &Point, pieces: &[Piece]) -> Option<Piece>
     }
 }
 
-fn alone_to(v: &Point, pieces: &[Piece]) -> Option<Piece>
-    ensures { result ≡ first_alone (arrives_at v.now) pieces.now }
+// The only piece with this end at a point, among pieces sorted by that end.
+fn only_at(pieces: &[Piece], end: End, v: &Point) -> Option<Piece>
+    requires { IsTrue (is_sorted_by (end_of end) pieces.now) }
+    ensures { result ≡ only_at (end_of end) pieces.now v.now }
 {
-    match pieces.split_first() {
-        Some((piece, rest)) => {
-            if arrives_at(v, piece) && !first_arrives(v, rest) {
-                Some(*piece)
-            } else {
-                None
-            }
-        }
-        None => None,
-    }
-}
-
-// The only piece that begins at a point, among pieces sorted by their lesser ends.
-fn only_from(pieces: &[Piece], v: &Point) -> Option<Piece>
-    requires { IsTrue (is_sorted_by beginning_of pieces.now) }
-    ensures { result ≡ only_from pieces.now v.now }
-{
-    let start = pieces.partition_point(|piece| piece.segment.from().cmp(v).is_lt());
-    alone_from(v, &pieces[start..])
-}
-
-// The only piece that arrives at a point, among pieces sorted by their greater ends.
-fn only_to(pieces: &[Piece], v: &Point) -> Option<Piece>
-    requires { IsTrue (is_sorted_by arrival_of pieces.now) }
-    ensures { result ≡ only_to pieces.now v.now }
-{
-    let start = pieces.partition_point(|piece| piece.segment.to().cmp(v).is_lt());
-    alone_to(v, &pieces[start..])
+    let start = pieces.partition_point(|piece| end_of(piece, end).cmp(v).is_lt());
+    alone_at(&pieces[start..], end, v)
 }
 
 // Whether two pieces have one direction and kind.
@@ -123,7 +101,10 @@ fn loose(pieces: &[Piece], arrivals: &[Piece], v: &Point) -> bool
     requires { AreSorted pieces.now arrivals.now }
     ensures { result ≡ is_loose pieces.now v.now }
 {
-    both_alike(only_to(arrivals, v), only_from(pieces, v))
+    both_alike(
+        only_at(arrivals, End::Greater, v),
+        only_at(pieces, End::Lesser, v),
+    )
 }
 
 // The piece that goes on from one that ends at a loose vertex.
@@ -133,7 +114,7 @@ fn next_piece(pieces: &[Piece], arrivals: &[Piece], piece: &Piece) -> Option<Pie
     ensures { result ≡ next_piece pieces.now piece.now }
 {
     if loose(pieces, arrivals, piece.segment.to()) {
-        only_from(pieces, piece.segment.to())
+        only_at(pieces, End::Lesser, piece.segment.to())
     } else {
         None
     }
