@@ -6,7 +6,6 @@ pub mod Outputs
 pub mod Progress
 pub mod Readings
 pub mod Released
-pub mod RightTasks
 pub mod Sampling
 pub mod Stopping
 pub mod Unanswered
