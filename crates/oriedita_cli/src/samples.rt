@@ -25,7 +25,7 @@ use cp_text::{CpLine, sample};
 use crease_store::LoadLine;
 use job_register::laws::records_enumerate;
 use job_register::{Event, Session};
-use oriedita_io::{Failed, Sink, write_all};
+use oriedita_io::{Sink, write_all};
 use script_lang::{Command, LoadLines, LoadStop, Reply};
 use std::alloc::{AllocError, Global};
 use std::thread::Threads;
@@ -107,7 +107,8 @@ fn ask_next<R: Threads + Sync, H: Helpers<Folding>>(
     requires unended { list_any ends_asks session.old.events ≡ false }
     ensures helped { IsHelped (H.held helpers.new) (H.given helpers.new) session.new tickets.new }
     ensures next { IfOk result (λ goes_on. goes_on ≡ true → IsAskedOn session.old session.new) }
-    ensures ended { IfOk result (λ goes_on. goes_on ≡ false → IsTrue (list_any ends_asks session.new.events)) }
+    ensures ended { IfOk result
+        (λ goes_on. goes_on ≡ false → IsTrue (list_any ends_asks session.new.events)) }
     ensures asks { AsksOn session.old.events session.new.events }
     ensures last { EndsLast session.new.events }
     ensures most { session.new.state.jobs.most ≡ session.old.state.jobs.most }
@@ -301,46 +302,18 @@ fn sample_text(alloc: Global, n: u32, events: &[Event]) -> Result<String, AllocE
     }
 }
 
-// Folds a sample, and writes its line.
-fn serve_sample<R: Threads + Sync, H: Helpers<Folding>, K: Sink>(
-    rt: &R,
-    alloc: Global,
-    most: u32,
-    n: u32,
-    session: &mut Session,
-    helpers: &mut H,
-    tickets: &mut Tickets,
-    out: &mut K,
-) -> Result<(), Stop>
-    requires some { 1 ≤ n }
-    requires few { n ≤ 7 }
-    requires helped { IsHelped (H.held helpers.old) (H.given helpers.old) session.old tickets.old }
-    requires fresh { session.old.events ≡ [] }
-    ensures helped { IsHelped (H.held helpers.new) (H.given helpers.new) session.new tickets.new }
-    ensures ended { OnOk result (IsTrue (list_any ends_asks session.new.events)) }
-    ensures commands { AreSampled n session.new.events }
-    ensures last { EndsLast session.new.events }
+// Writes the line of a sample.
+fn write_line<K: Sink>(alloc: Global, n: u32, session: &Session, out: &mut K) -> Result<(), Stop>
     ensures written { OnOk result
-        (Appends (K.taken out.old) (K.taken out.new) (sample_text n session.new.events)) }
+        (Appends (K.taken out.old) (K.taken out.new) (sample_text n session.now.events)) }
     ensures front { (count : ℕ)
-        × Appends (K.taken out.old) (K.taken out.new) (take count (sample_text n session.new.events)) }
-    ensures most { session.new.state.jobs.most ≡ session.old.state.jobs.most }
-    ensures misses { H.misses helpers.old ≤ H.misses helpers.new }
-    ensures running { AreMisses (H.misses helpers.old) (H.misses helpers.new) session.old.events
-        session.new.events }
+        × Appends (K.taken out.old) (K.taken out.new) (take count (sample_text n session.now.events)) }
     ensures cause { result ≡ Err Stop.Write → Rose (K.faults out.old) (K.faults out.new) }
     ensures faults_stay { K.faults out.old ≤ K.faults out.new }
 {
-    let Ok(()) = fold_sample(rt, alloc, most, n, session, helpers, tickets) else {
-        return Err(Stop::Memory);
-    };
-    let Ok(text) = sample_text(alloc, n, session.events().events()) else {
-        return Err(Stop::Memory);
-    };
-    match write_all(out, text.as_bytes()) {
-        Ok(()) => Ok(()),
-        Err(Failed) => Err(Stop::Write),
-    }
+    let text = sample_text(alloc, n, session.events().events())?;
+    write_all(out, text.as_bytes())?;
+    Ok(())
 }
 
 /// Folds a sample pattern in a new session, and asks for one layer order after another, to the last. One line is written,
@@ -377,7 +350,10 @@ pub fn sample_run<R: Threads + Sync, H: Helpers<Folding>, K: Sink>(
         return ended_without(alloc, NO_MEMORY);
     };
     let mut tickets = Tickets::new(alloc);
-    match serve_sample(rt, alloc, most, n, &mut session, helpers, &mut tickets, out) {
+    let Ok(()) = fold_sample(rt, alloc, most, n, &mut session, helpers, &mut tickets) else {
+        return stopped(session, Stop::Memory);
+    };
+    match write_line(alloc, n, &session, out) {
         Ok(()) => finish(session, out),
         Err(stop) => stopped(session, stop),
     }

@@ -18,23 +18,23 @@ returns-in_default-clause-input g c =
       unread = inr (inr status);
     }
 
-pub returns-in-Ok-serve_sample-clause-output : goal.returns-in-Ok-serve_sample-clause-output
-returns-in-Ok-serve_sample-clause-output g c =
+pub returns-in-Ok-write_line-clause-output : goal.returns-in-Ok-write_line-clause-output
+returns-in-Ok-write_line-clause-output g c =
     let before = g.K.Sink.taken c.args.out.now in
-    let after = g.K.Sink.taken c.serve_sample.new.out in
-    finished_output c.finish.result.status c.serve_sample.new.session.events
+    let after = g.K.Sink.taken c.write_line.new.out in
+    finished_output c.finish.result.status c.fold_sample.new.session.events
     (sample_text c.args.n (events_of c.finish.result.events)) before after (g.K.Sink.taken c.finish.new.out)
     (g.K.Sink.finished c.finish.new.out)
     (subst (λ (es : List Event). Appends before after (sample_text c.args.n es)) (sym c.finish.ensures.events)
-    c.in-Ok-serve_sample.ensures.written)
+    c.in-Ok-write_line.ensures.written)
     c.finish.ensures.bytes c.finish.ensures.status c.finish.ensures.finished
 
 pub returns-clause-output : goal.returns-clause-output
 returns-clause-output g c =
     let before = g.K.Sink.taken c.args.out.now in
-    let after = g.K.Sink.taken c.serve_sample.new.out in
-    let front = c.serve_sample.ensures.front in
-    stopped_output c.stopped.result.status (sample_text c.args.n (events_of c.stopped.result.events)) front.0 before
-    after (g.K.Sink.finished c.serve_sample.new.out) c.stopped.ensures.status
+    let after = g.K.Sink.taken c.write_line.new.out in
+    let front = c.write_line.ensures.front in
+    stopped_output c.stopped-in-Err.result.status (sample_text c.args.n (events_of c.stopped-in-Err.result.events)) front.0 before
+    after (g.K.Sink.finished c.write_line.new.out) c.stopped-in-Err.ensures.status
     (subst (λ (es : List Event). Appends before after (take front.0 (sample_text c.args.n es)))
-    (sym c.stopped.ensures.events) front.1)
+    (sym c.stopped-in-Err.ensures.events) front.1)
