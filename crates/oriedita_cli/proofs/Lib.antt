@@ -1,4 +1,5 @@
 pub mod Cutting
+pub mod Done
 pub mod FirstTickets
 pub mod Inputs
 pub mod Misses

@@ -1,7 +1,6 @@
 //! The outcomes of helpers: what is put, fetched and obtained for the asks of a session.
 
 ghost use Rattle.std.specs.Prelude.{◌≡◌, ◌≤◌, ◌<◌, ◌+◌, ◌++◌, ◌∷◌, [], ℕ, length, IfOk, IfSome, IsSome, None, OnOk, Some, true, false};
-ghost use Rattle.std.specs.Arc.{arc_value};
 ghost use Rattle.worker_split.specs.declared.task.Task.{Task};
 ghost use Rattle.worker_split.specs.Tasks.{task_of, IsRightOutcome};
 ghost use Rattle.task_board.specs.Helping.{IsObtained};

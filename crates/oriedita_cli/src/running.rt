@@ -1,6 +1,6 @@
 //! The top call.
 
-ghost use Rattle.std.specs.Prelude.{◌≡◌, ◌≢◌, ℕ, ◌<◌, ◌≤◌, ◌↔◌, ◌⊎◌, List, None, [], map, nat_lt, option_map, string_bytes, if◌then◌else◌, IfSome, IsSome};
+ghost use Rattle.std.specs.Prelude.{◌≡◌, ◌≢◌, ℕ, ◌<◌, ◌≤◌, ◌⊎◌, List, None, [], map, nat_lt, option_map, string_bytes, if◌then◌else◌, IfSome, IsSome};
 ghost use Rattle.std.specs.Io.KnownBytes.{Consumes, IsAtEnd};
 ghost use Rattle.oriedita_io.specs.Faults.{Rose};
 ghost use Rattle.job_register.specs.View.{events_of};
@@ -124,7 +124,7 @@ fn do_alone<R: Threads + Sync, K: Sink>(rt: &R, alloc: Global, errand: Errand, o
     ensures faults_stay { K.faults out.old ≤ K.faults out.new }
 {
     let mut helpers = Alone::new(alloc);
-    do_errand(rt, alloc, errand, &mut helpers, out)
+    do_errand(rt, alloc, 1, errand, &mut helpers, out)
 }
 
 /// [`run`] with these options, but without workers: what is waited for is searched there, and the call waits for nobody.

@@ -1,6 +1,6 @@
 //! The tickets of a session.
 
-ghost use Rattle.std.specs.Prelude.{◌≡◌, ◌↔◌, ◌++◌, ◌∷◌, [], IfSome, None, false, not, ◌==◌, filter};
+ghost use Rattle.std.specs.Prelude.{◌≡◌, ◌↔◌, [], IfSome, None, false, ◌==◌, filter};
 ghost use Rattle.std.specs.List.{list_any};
 ghost use Rattle.oriedita_cli.specs.Tickets.{IsListed, first_number, is_for, is_other};
 
