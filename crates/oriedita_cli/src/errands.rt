@@ -52,7 +52,8 @@ fn serve_errand<R: Threads + Sync, H: Helpers<Folding>, K: Sink>(
     ensures done { MatchResult result
         (λ _. IsDone errand 0 session.new.events) (λ _. IsDone errand 6 session.new.events) }
     ensures written { MatchResult result
-        (λ _. Appends (K.taken out.old) (K.taken out.new) (written_text (sample_of errand) session.new.events))
+        (λ _. Appends (K.taken out.old) (K.taken out.new)
+        (written_text (sample_of errand) session.new.events))
         (λ _. (count : ℕ) × Appends (K.taken out.old) (K.taken out.new)
         (take count (written_text (sample_of errand) session.new.events))) }
     ensures helped { IsHelped (H.held helpers.new) (H.given helpers.new) session.new tickets.new }
