@@ -1,11 +1,12 @@
 pub mod Cutting
+pub mod Done
+pub mod FirstTickets
 pub mod Inputs
 pub mod Misses
 pub mod Outputs
 pub mod Progress
 pub mod Readings
 pub mod Released
-pub mod RightTasks
 pub mod Sampling
 pub mod Stopping
 pub mod Unanswered

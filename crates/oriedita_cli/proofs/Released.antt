@@ -1,5 +1,5 @@
 -- Tickets that are held, and how many are held no more.
-use Rattle.std.proofs.Common.{◌≡◌, ℕ, zero, suc, ◌+◌, ◌≤◌, ◌<◌, ◌==◌, true, false, cond, not, inl, inr, List, [], ◌∷◌, ◌++◌, length, filter, get_or, Option, None, Some, is_some, is_none, refl, sym, ap, ap₂, subst, ◌∙◌, arith}
+use Rattle.std.proofs.Common.{◌≡◌, ℕ, zero, suc, ◌+◌, ◌≤◌, ◌==◌, true, false, cond, not, inl, inr, List, [], ◌∷◌, ◌++◌, length, filter, Option, None, Some, is_some, is_none, refl, sym, ap, ap₂, subst, ◌∙◌, arith}
 use Rattle.std.specs.Prelude.{IsSome, IfSome}
 use Rattle.std.proofs.lemmas.Bool.{cases_Bool, cases_eq, eq-eqb, ne_eqb}
 use Rattle.std.proofs.lemmas.List.{length-append}
@@ -104,12 +104,6 @@ all_pushed held (u ∷ ts) t all own = (all.0, all_pushed held ts t all.1 own)
 pub listed_pushed : (ts : List Ticket) (t : Ticket) → IsListed t.number t.job (ts ++ t ∷ [])
 listed_pushed [] t = inl (refl, refl)
 listed_pushed (u ∷ ts) t = inr (listed_pushed ts t)
-
-pub listed_at : (ts : List Ticket) (i : ℕ) (d : Ticket) (job : ℕ) → i < length ts → (get_or ts i d).job ≡ job
-    → IsListed (get_or ts i d).number job ts
-listed_at [] i d job within own = absurd (omega (arith, within))
-listed_at (t ∷ ts) zero d job within own = inl (refl, own)
-listed_at (t ∷ ts) (suc i) d job within own = inr (listed_at ts i d job (omega (arith, within)) own)
 
 others_few : (n : ℕ) (ts : List Ticket) → length (filter (is_other n) ts) ≤ length ts
 others_few n [] = omega arith

@@ -43,20 +43,24 @@ pub record IsInput (status : ℕ) (events : List Event) (first : List Command) (
   pub long : status ≡ 5 → script_limit < length bytes
   pub too_long : script_limit < length bytes → (status ≡ 5) ⊎ (status ≡ 6)
 
+-- what an opener tells of files: the bytes of the one at a path
+abbrev pub ToldFiles : Type 0
+ToldFiles = List ℕ → Option (List ℕ)
+
 -- the command of the file at a path, by what the opener tells of files; no more bytes were read of it than a file may have
-pub record IsFileLoad (file : List ℕ → Option (List ℕ)) (path : List ℕ) (first : List Command) : Type 0 where
+pub record IsFileLoad (file : ToldFiles) (path : List ℕ) (first : List Command) : Type 0 where
   pub bytes : List ℕ
   pub read : ReadsUpTo (file path) (script_limit + 1) bytes
   pub fits : length bytes ≤ script_limit
   pub command : first ≡ file_command bytes ∷ []
 
 -- what runs before the script: nothing, or the command of the file that is named
-abbrev pub IsFirst : (List ℕ → Option (List ℕ)) → Option (List ℕ) → List Command → Type 0
+abbrev pub IsFirst : ToldFiles → Option (List ℕ) → List Command → Type 0
 IsFirst file None first = first ≡ []
 IsFirst file (Some path) first = IsFileLoad file path first
 
 -- more bytes were read of the file that is named than a file may have
-pub record IsTooLong (file : List ℕ → Option (List ℕ)) (path : Option (List ℕ)) : Type 0 where
+pub record IsTooLong (file : ToldFiles) (path : Option (List ℕ)) : Type 0 where
   pub named : List ℕ
   pub is_named : path ≡ Some named
   pub bytes : List ℕ
@@ -65,7 +69,7 @@ pub record IsTooLong (file : List ℕ → Option (List ℕ)) (path : Option (Lis
 
 -- No script was read, and nothing was run: the words are refused, or the file was not read, or memory was refused. The
 -- faults are those of the opener, before and now.
-pub record IsUnread (file : List ℕ → Option (List ℕ)) (path : Option (List ℕ)) (status : ℕ) (events : List Event)
+pub record IsUnread (file : ToldFiles) (path : Option (List ℕ)) (status : ℕ) (events : List Event)
     (bytes : List ℕ) (faults faults' : ℕ) : Type 0 where
   pub none : events ≡ []
   pub unread : bytes ≡ []
@@ -74,7 +78,7 @@ pub record IsUnread (file : List ℕ → Option (List ℕ)) (path : Option (List
   pub long : status ≡ 5 → IsTooLong file path
 
 -- The script was read, behind the file where one is named.
-pub record IsRead (file : List ℕ → Option (List ℕ)) (path : Option (List ℕ)) (status : ℕ) (events : List Event)
+pub record IsRead (file : ToldFiles) (path : Option (List ℕ)) (status : ℕ) (events : List Event)
     (bytes : List ℕ) (faults faults' : ℕ) : Type 0 where
   pub first : List Command
   pub of_file : IsFirst file path first
@@ -82,11 +86,12 @@ pub record IsRead (file : List ℕ → Option (List ℕ)) (path : Option (List �
 
 -- The input clause, for what was read: for a sample nothing. The faults are those of the opener and of the script's source,
 -- before and now.
-abbrev pub IsRun : (List ℕ → Option (List ℕ)) → Option ℕ → Option (List ℕ) → ℕ → List Event → List ℕ → ℕ → ℕ → ℕ → ℕ
-    → Type 0
-IsRun file (Some n) path status events bytes openings openings' faults faults' = (bytes ≡ []) × IsSampled status n events
+abbrev pub IsRun : ToldFiles → Option ℕ → Option (List ℕ) → ℕ → List Event → List ℕ → ℕ → ℕ → ℕ → ℕ → Type 0
+IsRun file (Some n) path status events bytes openings openings' faults faults' =
+    (bytes ≡ []) × IsSampled status n events
 IsRun file None path status events bytes openings openings' faults faults' =
-    IsUnread file path status events bytes openings openings' ⊎ IsRead file path status events bytes faults faults'
+    IsUnread file path status events bytes openings openings'
+    ⊎ IsRead file path status events bytes faults faults'
 
 -- what a run writes: the text of its record, or the line of a sample
 abbrev pub written_text : Option ℕ → List Event → List ℕ

@@ -6,3 +6,4 @@ pub mod Tickets
 pub mod Reading
 pub mod Samples
 pub mod Errands
+pub mod Opening

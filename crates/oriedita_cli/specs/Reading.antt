@@ -7,7 +7,7 @@ use Rattle.oriedita_cli.specs.declared.reading.Reading.{Reading}
 use Rattle.oriedita_cli.specs.declared.reading.Reading.TheVariants.{Whole, Cut, Nothing, NoFile, Sample}
 use Rattle.oriedita_cli.specs.declared.opening.Unread.{Unread}
 use Rattle.oriedita_cli.specs.declared.opening.Unread.TheVariants.{Failed, TooLong}
-use Rattle.oriedita_cli.specs.Clauses.{IsFirst, IsTooLong, script_limit}
+use Rattle.oriedita_cli.specs.Clauses.{ToldFiles, IsFirst, IsTooLong, script_limit}
 use Rattle.oriedita_cli.specs.WholeLines.{AreWholeLines}
 
 -- The first commands, and behind them those of these bytes; or, where a fault ended the bytes, those of their whole lines;
@@ -24,23 +24,23 @@ IsReadBehind first (NoFile fault) bytes faults faults' = ⊥
 IsReadBehind first (Sample n) bytes faults faults' = ⊥
 
 -- the file that is named was read, where one is, and then the script
-pub record IsScript (file : List ℕ → Option (List ℕ)) (path : Option (List ℕ)) (reading : Reading) (bytes : List ℕ)
+pub record IsScript (file : ToldFiles) (path : Option (List ℕ)) (reading : Reading) (bytes : List ℕ)
     (faults faults' : ℕ) : Type 0 where
   pub first : List Command
   pub of_file : IsFirst file path first
   pub behind : IsReadBehind first reading bytes faults faults'
 
 -- The file was not read, and so nothing of the script; the faults are the opener's.
-pub record IsNoFile (file : List ℕ → Option (List ℕ)) (path : Option (List ℕ)) (fault : Unread) (bytes : List ℕ)
+pub record IsNoFile (file : ToldFiles) (path : Option (List ℕ)) (fault : Unread) (bytes : List ℕ)
     (faults faults' : ℕ) : Type 0 where
   pub unread : bytes ≡ []
   pub failed : fault ≡ Failed → Rose faults faults'
   pub long : fault ≡ TooLong → IsTooLong file path
 
 -- what was read, by the faults of the opener and of the source, before and now; for a sample nothing
-abbrev pub IsReading : (List ℕ → Option (List ℕ)) → Option ℕ → Option (List ℕ) → Reading → List ℕ → ℕ → ℕ → ℕ → ℕ
-    → Type 0
-IsReading file sample path (Sample n) bytes openings openings' faults faults' = (sample ≡ Some n) × (bytes ≡ [])
+abbrev pub IsReading : ToldFiles → Option ℕ → Option (List ℕ) → Reading → List ℕ → ℕ → ℕ → ℕ → ℕ → Type 0
+IsReading file sample path (Sample n) bytes openings openings' faults faults' =
+    (sample ≡ Some n) × (bytes ≡ [])
 IsReading file sample path (NoFile fault) bytes openings openings' faults faults' =
     (sample ≡ None) × IsNoFile file path fault bytes openings openings'
 IsReading file sample path reading bytes openings openings' faults faults' =

@@ -108,8 +108,8 @@ is_no_more (Posted x accepted) = false
 abbrev pub folded_text : Option (ℕ × ℕ) → ℕ → List ℕ
 folded_text None orders = codes " stopped\n"
 folded_text (Some shape) orders =
-    codes " faces " ++ decimal shape.0 ++ codes " pairs " ++ decimal shape.1 ++ codes " orders " ++ decimal orders
-    ++ codes "\n"
+    codes " faces " ++ decimal shape.0 ++ codes " pairs " ++ decimal shape.1 ++ codes " orders "
+    ++ decimal orders ++ codes "\n"
 
 abbrev pub sample_text : ℕ → List Event → List ℕ
 sample_text n es =

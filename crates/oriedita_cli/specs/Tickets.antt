@@ -1,5 +1,6 @@
 -- The tickets that a session holds, what their outcomes may be posted to, and how many are held no more.
-use Rattle.std.specs.Prelude.{◌≡◌, ⊤, ℕ, zero, suc, ◌+◌, ◌≤◌, ◌<◌, ◌^◌, ◌-◌, ◌⊎◌, ◌==◌, Bool, not, is_none, List, [], ◌∷◌, length, Option, Some, IsSome, IfSome, if◌then◌else◌}
+use Rattle.std.specs.Prelude.{◌≡◌, ⊤, ℕ, zero, suc, ◌+◌, ◌≤◌, ◌<◌, ◌^◌, ◌-◌, ◌⊎◌, ◌==◌, ◌&&◌, Bool, not, is_none, List, [], ◌∷◌, length, Option, Some, IsSome, IfSome, option_map, if◌then◌else◌}
+use Rattle.std.specs.List.{find}
 use Rattle.worker_split.specs.declared.task.Task.{Task}
 use Rattle.worker_split.specs.declared.outcome.Outcome.{Outcome}
 use Rattle.worker_split.specs.Tasks.{task_of, IsRightOutcome}
@@ -23,6 +24,14 @@ AreMisses before now old new =
 
 abbrev pub is_other : ℕ → Ticket → Bool
 is_other number t = not (t.number == number)
+
+-- the ticket is for the task of this piece of the job, with this budget
+abbrev pub is_for : ℕ → ℕ → ℕ → Ticket → Bool
+is_for job piece budget t = t.job == job && t.piece == piece && t.budget == budget
+
+-- the number of the first ticket for that task
+abbrev pub first_number : ℕ → ℕ → ℕ → List Ticket → Option ℕ
+first_number job piece budget ts = option_map (λ t. t.number) (find (is_for job piece budget) ts)
 
 -- a ticket of this number for a task of this job is in the list
 abbrev pub IsListed : ℕ → ℕ → List Ticket → Type 0

@@ -1,7 +1,6 @@
 //! The outcomes of helpers: what is put, fetched and obtained for the asks of a session.
 
 ghost use Rattle.std.specs.Prelude.{◌≡◌, ◌≤◌, ◌<◌, ◌+◌, ◌++◌, ◌∷◌, [], ℕ, length, IfOk, IfSome, IsSome, None, OnOk, Some, true, false};
-ghost use Rattle.std.specs.Arc.{arc_value};
 ghost use Rattle.worker_split.specs.declared.task.Task.{Task};
 ghost use Rattle.worker_split.specs.Tasks.{task_of, IsRightOutcome};
 ghost use Rattle.task_board.specs.Helping.{IsObtained};
@@ -20,6 +19,7 @@ use job_register::Session;
 use script_lang::Command;
 use std::alloc::{AllocError, Global};
 use task_board::{Helpers, Obtained};
+use worker_split::laws::right_outcomes_are_one_fact;
 use worker_split::{Outcome, Task, perform};
 
 /// Puts a task of the session. A session that was given as many tickets as can be counted is refused memory.
@@ -33,7 +33,8 @@ fn put_task<H: Helpers<Folding>>(
     requires right { MayBePosted session.now.state.jobs task }
     ensures helped { IsHelped (H.held helpers.new) (H.given helpers.new) session.now tickets.new }
     ensures held { IfOk result (λ number. H.held helpers.new number ≡ Some task) }
-    ensures listed { IfOk result (λ number. (ticket : Ticket) × (ticket.number ≡ number) × (ticket.job ≡ task.job)
+    ensures listed { IfOk result (λ number. (ticket : Ticket)
+        × (ticket.number ≡ number) × (ticket.job ≡ task.job)
         × (tickets.new.list.items ≡ tickets.old.list.items ++ ticket ∷ [])) }
     ensures misses { H.misses helpers.new ≡ H.misses helpers.old }
 {
@@ -69,7 +70,8 @@ fn ticket_for<H: Helpers<Folding>>(
 ) -> Result<Option<u32>, AllocError>
     requires { IsHelped (H.held helpers.old) (H.given helpers.old) session.now tickets.old }
     ensures helped { IsHelped (H.held helpers.new) (H.given helpers.new) session.now tickets.new }
-    ensures there { IfOk result (λ ticket. IsSome (task_in session.now.state.jobs job piece) → IsSome ticket) }
+    ensures there { IfOk result
+        (λ ticket. IsSome (task_in session.now.state.jobs job piece) → IsSome ticket) }
     ensures ticket { IfOk result (λ ticket. IfSome ticket (λ number. IsTicketFor (H.held helpers.new)
         session.now.state.jobs job number tickets.old.list.items tickets.new.list.items)) }
     ensures misses { H.misses helpers.new ≡ H.misses helpers.old }
@@ -108,6 +110,7 @@ fn outcome_of(alloc: Global, obtained: Obtained<Folding>) -> Result<Outcome, All
         → IsObtained (λ x. IsRightOutcome (task_of task) x) obtained task before now
         → IfOk result (λ x. IsRightOutcome (task_of task) x) }
 {
+    right_outcomes_are_one_fact();
     match obtained {
         Obtained::Posted(outcome) => Ok(outcome),
         Obtained::Yours(task) => perform(alloc, &task),
@@ -127,12 +130,14 @@ fn fetch_piece<H: Helpers<Folding>>(
     ensures helped { IsHelped (H.held helpers.new) (H.given helpers.new) session.new tickets.new }
     ensures goes_on { GoesOn session.old session.new }
     ensures misses { H.misses helpers.old ≤ H.misses helpers.new }
-    ensures missed { IfOk result (λ found. found ≡ false → Rose (H.misses helpers.old) (H.misses helpers.new)) }
+    ensures missed { IfOk result
+        (λ found. found ≡ false → Rose (H.misses helpers.old) (H.misses helpers.new)) }
     ensures fewer { IfOk result (λ found. found ≡ true
         → length tickets.new.list.items + waiting_in session.new.state.jobs job
         < length tickets.old.list.items + waiting_in session.old.state.jobs job) }
 {
     right_outcomes_stay();
+    right_outcomes_are_one_fact();
     let Some(number) = ticket_for(session, helpers, tickets, job, piece)? else {
         return Err(AllocError);
     };

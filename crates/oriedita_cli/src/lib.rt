@@ -19,5 +19,4 @@ mod workers;
 pub use folding::Folding;
 pub use programs::{program, run_arguments};
 pub use running::{Ended, run, run_alone};
-pub use samples::sample_run;
 pub use sessions::session;

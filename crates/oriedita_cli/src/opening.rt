@@ -30,6 +30,20 @@ impl From<AllocError> for Unread {
     }
 }
 
+impl From<OpenFault> for Unread {
+    ghost use Rattle.std.specs.Prelude.{◌≡◌};
+    ghost use Rattle.oriedita_cli.specs.Opening.{unread_of};
+
+    ghost from_gives = { λ fault unread. unread ≡ unread_of fault };
+
+    fn from(fault: OpenFault) -> Unread {
+        match fault {
+            OpenFault::Failed => Unread::Failed,
+            OpenFault::Memory => Unread::Memory,
+        }
+    }
+}
+
 // The bytes of a file that is not too long.
 fn read_whole_file<O: Opener>(alloc: Global, path: &str, files: &mut O) -> Result<Vec<u8>, Unread>
     ensures ok { IfOk result (λ bytes. ReadsUpTo (O.file files.old path.now) (script_limit + 1) bytes.items) }
@@ -38,16 +52,11 @@ fn read_whole_file<O: Opener>(alloc: Global, path: &str, files: &mut O) -> Resul
     ensures long { result ≡ Err Unread.TooLong → IsTooLong (O.file files.old) (Some path.now) }
     ensures faults_stay { O.faults files.old ≤ O.faults files.new }
 {
-    match files.read_up_to(alloc, path, LONGEST_INPUT + 1) {
-        Ok(bytes) => {
-            if bytes.len() > LONGEST_INPUT {
-                return Err(Unread::TooLong);
-            }
-            Ok(bytes)
-        }
-        Err(OpenFault::Failed) => Err(Unread::Failed),
-        Err(OpenFault::Memory) => Err(Unread::Memory),
+    let bytes = files.read_up_to(alloc, path, LONGEST_INPUT + 1)?;
+    if bytes.len() > LONGEST_INPUT {
+        return Err(Unread::TooLong);
     }
+    Ok(bytes)
 }
 
 fn file_commands(alloc: Global, bytes: &[u8]) -> Result<Commands, AllocError>
@@ -80,7 +89,8 @@ pub(crate) fn first_commands<O: Opener>(
 ) -> Result<Commands, Unread>
     ensures ok { IfOk result (λ first. IsFirst (O.file files.old) (option_map string_bytes path.now) first) }
     ensures failed { result ≡ Err Unread.Failed → Rose (O.faults files.old) (O.faults files.new) }
-    ensures long { result ≡ Err Unread.TooLong → IsTooLong (O.file files.old) (option_map string_bytes path.now) }
+    ensures long { result ≡ Err Unread.TooLong
+        → IsTooLong (O.file files.old) (option_map string_bytes path.now) }
     ensures faults_stay { O.faults files.old ≤ O.faults files.new }
 {
     match path {

@@ -112,7 +112,8 @@ pub fn run_arguments<R: Threads + Wait + Sync, S: Source, O: Opener, K: Sink, G:
         × IsRun (O.file files.old) (sample_named words) (file_named words) result.status
         (events_of result.events) bytes (O.faults files.old) (O.faults files.new) (S.faults script.old)
         (S.faults script.new))) }
-    ensures untold { IfErr arguments (λ _. (script.new ≡ script.old) × (files.new ≡ files.old) × (out.new ≡ out.old)
+    ensures untold { IfErr arguments (λ _.
+        (script.new ≡ script.old) × (files.new ≡ files.old) × (out.new ≡ out.old)
         × (events_of result.events ≡ []) × (result.status ≡ BAD_WORDS ⊎ result.status ≡ NO_MEMORY)) }
 
     // The status clause.

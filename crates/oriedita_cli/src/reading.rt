@@ -72,8 +72,8 @@ pub(crate) fn read_commands<S: Source, O: Opener>(
     files: &mut O,
 ) -> Reading
     ensures reading { (bytes : List ℕ) × Consumes (S.left script.old) (S.left script.new) bytes
-        × IsReading (O.file files.old) options.now.sample (option_map string_bytes options.now.cp) result bytes
-        (O.faults files.old) (O.faults files.new) (S.faults script.old) (S.faults script.new) }
+        × IsReading (O.file files.old) options.now.sample (option_map string_bytes options.now.cp) result
+        bytes (O.faults files.old) (O.faults files.new) (S.faults script.old) (S.faults script.new) }
     ensures untouched { IsSome options.now.sample → (script.new ≡ script.old) × (files.new ≡ files.old) }
     ensures read_to_its_end { IsWhole result → IsAtEnd (S.left script.new) }
     ensures faults_stay { S.faults script.old ≤ S.faults script.new }

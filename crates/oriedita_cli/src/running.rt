@@ -1,6 +1,6 @@
 //! The top call.
 
-ghost use Rattle.std.specs.Prelude.{◌≡◌, ◌≢◌, ℕ, ◌<◌, ◌≤◌, ◌↔◌, ◌⊎◌, List, None, [], map, nat_lt, option_map, string_bytes, if◌then◌else◌, IfSome, IsSome};
+ghost use Rattle.std.specs.Prelude.{◌≡◌, ◌≢◌, ℕ, ◌<◌, ◌≤◌, ◌⊎◌, List, None, [], map, nat_lt, option_map, string_bytes, if◌then◌else◌, IfSome, IsSome};
 ghost use Rattle.std.specs.Io.KnownBytes.{Consumes, IsAtEnd};
 ghost use Rattle.oriedita_io.specs.Faults.{Rose};
 ghost use Rattle.job_register.specs.View.{events_of};
@@ -116,15 +116,15 @@ fn do_alone<R: Threads + Sync, K: Sink>(rt: &R, alloc: Global, errand: Errand, o
     requires { IsErrand errand }
     ensures legal { IsLegal 1 (events_of result.events) }
     ensures done { IsDone errand result.status (events_of result.events) }
-    ensures output { IsOutput result.status (written_text (sample_of errand) (events_of result.events)) (K.taken out.old)
-        (K.taken out.new) (K.finished out.new) }
+    ensures output { IsOutput result.status (written_text (sample_of errand) (events_of result.events))
+        (K.taken out.old) (K.taken out.new) (K.finished out.new) }
     ensures status { (result.status ≡ ended_status (events_of result.events))
         ⊎ ((result.status ≡ WRITE_FAILED) ⊎ (result.status ≡ NO_MEMORY)) }
     ensures cause { result.status ≡ WRITE_FAILED → Rose (K.faults out.old) (K.faults out.new) }
     ensures faults_stay { K.faults out.old ≤ K.faults out.new }
 {
     let mut helpers = Alone::new(alloc);
-    do_errand(rt, alloc, errand, &mut helpers, out)
+    do_errand(rt, alloc, 1, errand, &mut helpers, out)
 }
 
 /// [`run`] with these options, but without workers: what is waited for is searched there, and the call waits for nobody.
@@ -145,8 +145,8 @@ pub fn run_alone<R: Threads + Sync, S: Source, O: Opener, K: Sink>(
         (S.faults script.new) }
     ensures unread { IsSome options.now.sample → (script.new ≡ script.old) × (files.new ≡ files.old) }
     ensures read_to_its_end { options.now.sample ≡ None → result.status < 2 → IsAtEnd (S.left script.new) }
-    ensures output { IsOutput result.status (written_text options.now.sample (events_of result.events)) (K.taken out.old)
-        (K.taken out.new) (K.finished out.new) }
+    ensures output { IsOutput result.status (written_text options.now.sample (events_of result.events))
+        (K.taken out.old) (K.taken out.new) (K.finished out.new) }
     ensures status { result.status ≤ 6 }
     ensures words { result.status ≢ BAD_WORDS }
     ensures refusals { result.status < 2 → result.status ≡ ended_status (events_of result.events) }
@@ -187,8 +187,8 @@ fn run_beside<R: Threads + Wait + Sync, S: Source, O: Opener, K: Sink, G: Gate +
         (S.faults script.new) }
     ensures unread { IsSome options.now.sample → (script.new ≡ script.old) × (files.new ≡ files.old) }
     ensures read_to_its_end { options.now.sample ≡ None → result.status < 2 → IsAtEnd (S.left script.new) }
-    ensures output { IsOutput result.status (written_text options.now.sample (events_of result.events)) (K.taken out.old)
-        (K.taken out.new) (K.finished out.new) }
+    ensures output { IsOutput result.status (written_text options.now.sample (events_of result.events))
+        (K.taken out.old) (K.taken out.new) (K.finished out.new) }
     ensures status { result.status ≤ 6 }
     ensures words { result.status ≢ BAD_WORDS }
     ensures refusals { result.status < 2 → result.status ≡ ended_status (events_of result.events) }
@@ -249,8 +249,9 @@ pub fn run<R: Threads + Wait + Sync, S: Source, O: Opener, K: Sink, G: Gate + Sy
         → IsAtEnd (S.left script.new) }
 
     // The output clause.
-    ensures output { IsOutput result.status (written_text (sample_named (map string_bytes words.now)) (events_of result.events)) (K.taken out.old)
-        (K.taken out.new) (K.finished out.new) }
+    ensures output { IsOutput result.status
+        (written_text (sample_named (map string_bytes words.now)) (events_of result.events))
+        (K.taken out.old) (K.taken out.new) (K.finished out.new) }
 
     // The status clause.
     ensures status { result.status ≤ 6 }

@@ -1,31 +1,23 @@
 //! A sample pattern, folded to its last layer order.
 
-ghost use Rattle.std.specs.Prelude.{◌≡◌, ◌++◌, ◌+◌, ◌-◌, ◌^◌, ◌<◌, ◌≤◌, ◌⊎◌, [], ℕ, None, Err, true, false, IfOk, IsTrue, OnOk, codes, decimal, string_bytes};
+ghost use Rattle.std.specs.Prelude.{◌≡◌, ◌++◌, ◌+◌, ◌-◌, ◌^◌, ◌<◌, ◌≤◌, [], ℕ, None, Err, true, false, IfOk, IsTrue, OnOk, codes, decimal, string_bytes};
 ghost use Rattle.std.specs.Prelude.{Some, take, length, if◌then◌else◌};
 ghost use Rattle.std.specs.List.{list_any};
 ghost use Rattle.std.specs.Io.KnownBytes.{Appends};
 ghost use Rattle.cp_text.specs.Sample.{sample_lines};
 ghost use Rattle.script_lang.specs.declared.block.LoadStop.{LoadStop};
 ghost use Rattle.oriedita_io.specs.Faults.{Rose};
-ghost use Rattle.job_register.specs.View.{events_of};
-ghost use Rattle.job_register.specs.Counts.{running_replies, accepted_outcomes};
-ghost use Rattle.job_register.specs.FoldingRecords.{EnumeratesOrders};
-ghost use Rattle.job_register.specs.Legal.{IsLegal};
-ghost use Rattle.oriedita_cli.specs.Clauses.{IsOutput, ended_status};
-ghost use Rattle.oriedita_cli.specs.Samples.{numbered_from, ends_by, ends_asks, EndsLast, AsksOn, AreSampled, IsSampled, shape_of, shape_told, first_shape, shows_order, orders_shown, is_no_more, folded_text, sample_text};
+ghost use Rattle.oriedita_cli.specs.Samples.{numbered_from, ends_by, ends_asks, EndsLast, AsksOn, AreSampled, shape_of, shape_told, first_shape, shows_order, orders_shown, is_no_more, folded_text, sample_text};
 ghost use Rattle.oriedita_cli.specs.Serving.{IsAskedOn};
-ghost use Rattle.oriedita_cli.specs.Tickets.{AreMisses, IsHelped, released};
+ghost use Rattle.oriedita_cli.specs.Tickets.{AreMisses, IsHelped};
 
 use crate::folding::Folding;
-use crate::running::{Ended, NO_MEMORY, WRITE_FAILED, ended_without};
 use crate::serving::{Stop, answer};
-use crate::sessions::{finish, stopped};
 use crate::tickets::Tickets;
 use cp_text::{CpLine, sample};
 use crease_store::LoadLine;
-use job_register::laws::records_enumerate;
 use job_register::{Event, Session};
-use oriedita_io::{Failed, Sink, write_all};
+use oriedita_io::{Sink, write_all};
 use script_lang::{Command, LoadLines, LoadStop, Reply};
 use std::alloc::{AllocError, Global};
 use std::thread::Threads;
@@ -107,7 +99,8 @@ fn ask_next<R: Threads + Sync, H: Helpers<Folding>>(
     requires unended { list_any ends_asks session.old.events ≡ false }
     ensures helped { IsHelped (H.held helpers.new) (H.given helpers.new) session.new tickets.new }
     ensures next { IfOk result (λ goes_on. goes_on ≡ true → IsAskedOn session.old session.new) }
-    ensures ended { IfOk result (λ goes_on. goes_on ≡ false → IsTrue (list_any ends_asks session.new.events)) }
+    ensures ended { IfOk result
+        (λ goes_on. goes_on ≡ false → IsTrue (list_any ends_asks session.new.events)) }
     ensures asks { AsksOn session.old.events session.new.events }
     ensures last { EndsLast session.new.events }
     ensures most { session.new.state.jobs.most ≡ session.old.state.jobs.most }
@@ -163,8 +156,8 @@ fn ask_all<R: Threads + Sync, H: Helpers<Folding>>(
     Ok(())
 }
 
-// Loads a sample, folds it, and asks for all of its layer orders.
-fn fold_sample<R: Threads + Sync, H: Helpers<Folding>>(
+/// Loads a sample, folds it, and asks for one layer order after another, to the last.
+pub(crate) fn fold_sample<R: Threads + Sync, H: Helpers<Folding>>(
     rt: &R,
     alloc: Global,
     most: u32,
@@ -301,84 +294,21 @@ fn sample_text(alloc: Global, n: u32, events: &[Event]) -> Result<String, AllocE
     }
 }
 
-// Folds a sample, and writes its line.
-fn serve_sample<R: Threads + Sync, H: Helpers<Folding>, K: Sink>(
-    rt: &R,
+/// Writes the line of a sample: `sample N faces F pairs P orders K`, or `sample N stopped` where an ask was refused.
+pub(crate) fn write_line<K: Sink>(
     alloc: Global,
-    most: u32,
     n: u32,
-    session: &mut Session,
-    helpers: &mut H,
-    tickets: &mut Tickets,
+    session: &Session,
     out: &mut K,
 ) -> Result<(), Stop>
-    requires some { 1 ≤ n }
-    requires few { n ≤ 7 }
-    requires helped { IsHelped (H.held helpers.old) (H.given helpers.old) session.old tickets.old }
-    requires fresh { session.old.events ≡ [] }
-    ensures helped { IsHelped (H.held helpers.new) (H.given helpers.new) session.new tickets.new }
-    ensures ended { OnOk result (IsTrue (list_any ends_asks session.new.events)) }
-    ensures commands { AreSampled n session.new.events }
-    ensures last { EndsLast session.new.events }
     ensures written { OnOk result
-        (Appends (K.taken out.old) (K.taken out.new) (sample_text n session.new.events)) }
+        (Appends (K.taken out.old) (K.taken out.new) (sample_text n session.now.events)) }
     ensures front { (count : ℕ)
-        × Appends (K.taken out.old) (K.taken out.new) (take count (sample_text n session.new.events)) }
-    ensures most { session.new.state.jobs.most ≡ session.old.state.jobs.most }
-    ensures misses { H.misses helpers.old ≤ H.misses helpers.new }
-    ensures running { AreMisses (H.misses helpers.old) (H.misses helpers.new) session.old.events
-        session.new.events }
+        × Appends (K.taken out.old) (K.taken out.new) (take count (sample_text n session.now.events)) }
     ensures cause { result ≡ Err Stop.Write → Rose (K.faults out.old) (K.faults out.new) }
     ensures faults_stay { K.faults out.old ≤ K.faults out.new }
 {
-    let Ok(()) = fold_sample(rt, alloc, most, n, session, helpers, tickets) else {
-        return Err(Stop::Memory);
-    };
-    let Ok(text) = sample_text(alloc, n, session.events().events()) else {
-        return Err(Stop::Memory);
-    };
-    match write_all(out, text.as_bytes()) {
-        Ok(()) => Ok(()),
-        Err(Failed) => Err(Stop::Write),
-    }
-}
-
-/// Folds a sample pattern in a new session, and asks for one layer order after another, to the last. One line is written,
-/// `sample N faces F pairs P orders K`, or `sample N stopped` where an ask was refused.
-pub fn sample_run<R: Threads + Sync, H: Helpers<Folding>, K: Sink>(
-    rt: &R,
-    alloc: Global,
-    most: u32,
-    n: u32,
-    helpers: &mut H,
-    out: &mut K,
-) -> Ended
-    requires most { most ≡ 1 }
-    requires some { 1 ≤ n }
-    requires few { n ≤ 7 }
-    requires given { H.given helpers.old ≡ 0 }
-    requires none { (number : ℕ) → H.held helpers.old number ≡ None }
-    ensures legal { IsLegal most (events_of result.events) }
-    ensures enumeration { EnumeratesOrders most (events_of result.events) }
-    ensures input { IsSampled result.status n (events_of result.events) }
-    ensures output { IsOutput result.status (sample_text n (events_of result.events)) (K.taken out.old)
-        (K.taken out.new) (K.finished out.new) }
-    ensures status { (result.status ≡ ended_status (events_of result.events))
-        ⊎ ((result.status ≡ WRITE_FAILED) ⊎ (result.status ≡ NO_MEMORY)) }
-    ensures cause { result.status ≡ WRITE_FAILED → Rose (K.faults out.old) (K.faults out.new) }
-    ensures faults_stay { K.faults out.old ≤ K.faults out.new }
-    ensures running { H.misses helpers.new < 2 ^ 64 - 1
-        → running_replies (events_of result.events) + H.misses helpers.old ≤ H.misses helpers.new }
-    ensures tickets { accepted_outcomes (events_of result.events)
-        ≤ released (H.held helpers.new) (H.given helpers.new) }
-{
-    records_enumerate();
-    let Ok(mut session) = Session::open(alloc, most) else {
-        return ended_without(alloc, NO_MEMORY);
-    };
-    let mut tickets = Tickets::new(alloc);
-    match serve_sample(rt, alloc, most, n, &mut session, helpers, &mut tickets, out) {
-        Ok(()) => finish(session, out),
-        Err(stop) => stopped(session, stop),
-    }
+    let text = sample_text(alloc, n, session.events().events())?;
+    write_all(out, text.as_bytes())?;
+    Ok(())
 }

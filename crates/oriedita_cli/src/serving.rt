@@ -29,6 +29,28 @@ pub enum Stop {
     Memory,
 }
 
+impl From<AllocError> for Stop {
+    ghost use Rattle.std.specs.Prelude.{◌≡◌};
+    ghost use Rattle.oriedita_cli.specs.declared.serving.Stop.TheVariants.{Memory};
+
+    ghost from_gives = { λ _ stop. stop ≡ Memory };
+
+    fn from(_e: AllocError) -> Stop {
+        Stop::Memory
+    }
+}
+
+impl From<Failed> for Stop {
+    ghost use Rattle.std.specs.Prelude.{◌≡◌};
+    ghost use Rattle.oriedita_cli.specs.declared.serving.Stop.TheVariants.{Write};
+
+    ghost from_gives = { λ _ stop. stop ≡ Write };
+
+    fn from(_e: Failed) -> Stop {
+        Stop::Write
+    }
+}
+
 /// The job whose next order a command asks for.
 fn asked_job(command: &Command) -> Option<u32> {
     match command {
@@ -89,7 +111,8 @@ pub fn serve<R: Threads + Sync, H: Helpers<Folding>, K: Sink>(
     requires helped { IsHelped (H.held helpers.old) (H.given helpers.old) session.old tickets.old }
     ensures serves { MatchResult result
         (λ _. Serves session.old.events session.new.events (K.taken out.old) (K.taken out.new) (command ∷ []))
-        (λ _. StopsIn session.old.events session.new.events (K.taken out.old) (K.taken out.new) (command ∷ [])) }
+        (λ _. StopsIn session.old.events session.new.events (K.taken out.old) (K.taken out.new)
+        (command ∷ [])) }
     ensures helped { IsHelped (H.held helpers.new) (H.given helpers.new) session.new tickets.new }
     ensures misses { H.misses helpers.old ≤ H.misses helpers.new }
     ensures running { AreMisses (H.misses helpers.old) (H.misses helpers.new) session.old.events
@@ -98,17 +121,11 @@ pub fn serve<R: Threads + Sync, H: Helpers<Folding>, K: Sink>(
     ensures cause { result ≡ Err Stop.Write → Rose (K.faults out.old) (K.faults out.new) }
     ensures faults_stay { K.faults out.old ≤ K.faults out.new }
 {
-    let Ok(()) = answer(rt, alloc, most, session, helpers, tickets, command) else {
-        return Err(Stop::Memory);
-    };
+    answer(rt, alloc, most, session, helpers, tickets, command)?;
     text.clear();
-    let Ok(()) = session.write_last(text) else {
-        return Err(Stop::Memory);
-    };
-    match write_all(out, text.as_slice()) {
-        Ok(()) => Ok(()),
-        Err(Failed) => Err(Stop::Write),
-    }
+    session.write_last(text)?;
+    write_all(out, text.as_slice())?;
+    Ok(())
 }
 
 /// Answers the commands one after another, and writes the text of each reply.
@@ -126,7 +143,8 @@ pub fn serve_all<R: Threads + Sync, H: Helpers<Folding>, K: Sink>(
     requires helped { IsHelped (H.held helpers.old) (H.given helpers.old) session.old tickets.old }
     ensures serves { MatchResult result
         (λ _. Serves session.old.events session.new.events (K.taken out.old) (K.taken out.new) commands.items)
-        (λ _. StopsIn session.old.events session.new.events (K.taken out.old) (K.taken out.new) commands.items) }
+        (λ _. StopsIn session.old.events session.new.events (K.taken out.old) (K.taken out.new)
+        commands.items) }
     ensures helped { IsHelped (H.held helpers.new) (H.given helpers.new) session.new tickets.new }
     ensures misses { H.misses helpers.old ≤ H.misses helpers.new }
     ensures running { AreMisses (H.misses helpers.old) (H.misses helpers.new) session.old.events
@@ -137,12 +155,9 @@ pub fn serve_all<R: Threads + Sync, H: Helpers<Folding>, K: Sink>(
 {
     let mut text = Vec::new(alloc);
     for command in commands {
-        match serve(
+        serve(
             rt, alloc, most, session, helpers, tickets, &mut text, command, out,
-        ) {
-            Ok(()) => {}
-            Err(stop) => return Err(stop),
-        }
+        )?;
     }
     Ok(())
 }

@@ -12,12 +12,11 @@ ghost use Rattle.job_register.specs.Text.{text_of};
 ghost use Rattle.oriedita_cli.specs.Clauses.{IsAnswered, IsOutput, ended_status};
 ghost use Rattle.oriedita_cli.specs.Tickets.{released};
 
+use crate::errands::{Errand, do_errand};
 use crate::folding::Folding;
-use crate::running::{ACCEPTED, Ended, NO_MEMORY, REFUSED, WRITE_FAILED, ended_without};
-use crate::serving::{Stop, serve_all};
-use crate::tickets::Tickets;
+use crate::running::{ACCEPTED, Ended, NO_MEMORY, REFUSED, WRITE_FAILED};
+use crate::serving::Stop;
 use job_register::Session;
-use job_register::laws::records_enumerate;
 use oriedita_io::{Failed, Sink};
 use script_lang::Commands;
 use std::alloc::Global;
@@ -96,22 +95,5 @@ pub fn session<R: Threads + Sync, H: Helpers<Folding>, K: Sink>(
     ensures tickets { accepted_outcomes (events_of result.events)
         ≤ released (H.held helpers.new) (H.given helpers.new) }
 {
-    records_enumerate();
-    let Ok(mut session) = Session::open(alloc, most) else {
-        return ended_without(alloc, NO_MEMORY);
-    };
-    let mut tickets = Tickets::new(alloc);
-    match serve_all(
-        rt,
-        alloc,
-        most,
-        &mut session,
-        helpers,
-        &mut tickets,
-        commands.into_vec(),
-        out,
-    ) {
-        Ok(()) => finish(session, out),
-        Err(stop) => stopped(session, stop),
-    }
+    do_errand(rt, alloc, most, Errand::Script(commands), helpers, out)
 }

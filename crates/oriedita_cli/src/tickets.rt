@@ -1,7 +1,8 @@
 //! The tickets of a session.
 
-ghost use Rattle.std.specs.Prelude.{◌≡◌, ◌++◌, ◌∷◌, [], IfSome, not, ◌==◌, filter};
-ghost use Rattle.oriedita_cli.specs.Tickets.{IsListed, is_other};
+ghost use Rattle.std.specs.Prelude.{◌≡◌, ◌↔◌, [], IfSome, None, false, ◌==◌, filter};
+ghost use Rattle.std.specs.List.{list_any};
+ghost use Rattle.oriedita_cli.specs.Tickets.{IsListed, first_number, is_for, is_other};
 
 use std::alloc::Global;
 
@@ -12,6 +13,14 @@ pub struct Ticket {
     pub job: u32,
     pub piece: u32,
     pub budget: u64,
+}
+
+impl Ticket {
+    fn is_for(&self, job: u32, piece: u32, budget: u64) -> bool
+        ensures { result ≡ is_for job piece budget self.now }
+    {
+        self.job == job && self.piece == piece && self.budget == budget
+    }
 }
 
 /// The tickets that a session holds, and how many it was given.
@@ -32,16 +41,22 @@ impl Tickets {
         }
     }
 
-    /// The ticket for the task of a piece with this budget, if one is held.
-    pub fn find(&self, job: u32, piece: u32, budget: u64) -> Option<u32>
-        ensures { IfSome result (λ number. IsListed number job self.now.list.items) }
+    fn first_number(&self, job: u32, piece: u32, budget: u64) -> Option<u32>
+        ensures { result ≡ first_number job piece budget self.now.list.items }
     {
-        for ticket in self.list.as_slice() {
-            if ticket.job == job && ticket.piece == piece && ticket.budget == budget {
-                return Some(ticket.number);
-            }
-        }
-        None
+        self.list
+            .iter()
+            .find(|ticket| ticket.is_for(job, piece, budget))
+            .map(|ticket| ticket.number)
+    }
+
+    /// The first ticket for the task of a piece with this budget, if one is held.
+    pub fn find(&self, job: u32, piece: u32, budget: u64) -> Option<u32>
+        ensures first { result ≡ first_number job piece budget self.now.list.items }
+        ensures none { (result ≡ None) ↔ (list_any (is_for job piece budget) self.now.list.items ≡ false) }
+        ensures listed { IfSome result (λ number. IsListed number job self.now.list.items) }
+    {
+        self.first_number(job, piece, budget)
     }
 
     /// The ticket is held no more.

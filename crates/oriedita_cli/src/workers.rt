@@ -1,6 +1,6 @@
 //! A session whose tasks worker threads search.
 
-ghost use Rattle.std.specs.Prelude.{◌≡◌, ℕ, ◌+◌, ◌<◌, ◌≤◌, ◌⊎◌, IfSome};
+ghost use Rattle.std.specs.Prelude.{◌≡◌, ◌+◌, ◌<◌, ◌≤◌, ◌⊎◌, IfSome};
 ghost use Rattle.oriedita_io.specs.Faults.{Rose};
 ghost use Rattle.job_register.specs.View.{events_of};
 ghost use Rattle.job_register.specs.Legal.{IsLegal};
@@ -48,7 +48,7 @@ fn own<L: Ledger, R: Threads + Wait + Sync, K: Sink>(
         return ended_without(alloc, NO_MEMORY);
     };
     let mut helpers = OverBoard::new(rt, alloc, board, &Folding, seat);
-    let ended = do_errand(rt, alloc, errand, &mut helpers, out);
+    let ended = do_errand(rt, alloc, 1, errand, &mut helpers, out);
     let mut seat = helpers.into_seat();
     board.close(rt, &mut seat);
     ended

@@ -6,7 +6,6 @@ use Rattle.worker_split.specs.Tasks.{task_of, IsRightOutcome}
 use Rattle.oriedita_cli.specs.Tickets.{IsTicketFor}
 use Rattle.oriedita_cli.proofs.Progress.{fewer_waiting}
 use Rattle.oriedita_cli.proofs.Released.{ticket_held, held_right, helped_taken, others_fewer}
-use Rattle.oriedita_cli.proofs.RightTasks.{right_outcome}
 use Rattle.oriedita_cli.proofs.helping.fetch_piece.Goals as goal
 
 pub fetch-requires : goal.fetch-requires
@@ -40,7 +39,7 @@ post-requires g c =
     subst (λ o. IfSome o (λ t. ∥ IsRightOutcome (task_of t) x ∥₁)) own.1
     (subst (λ o. IfSome o (λ y. IfSome (held number) (λ t. ∥ IsRightOutcome (task_of t) y ∥₁))) c.in-Some-2.is
     c.in_ok-outcome.ensures.right) in
-    let right = right_outcome (task_of own.0) x there in
+    let right = c.right_outcomes_are_one_fact.ensures (task_of own.0) x there in
     c.right_outcomes_stay.ensures.posts s.state.jobs x
     (held_right held given s ts number own.0 x c.ticket_for.ensures.helped own.1 right)
 
@@ -97,7 +96,7 @@ returns-clause-fewer g c =
     subst (λ o. IfSome o (λ t. ∥ IsRightOutcome (task_of t) x ∥₁)) own.1
     (subst (λ o. IfSome o (λ y. IfSome (held number) (λ t. ∥ IsRightOutcome (task_of t) y ∥₁))) c.in-Some-2.is
     c.in_ok-outcome.ensures.right) in
-    let right = right_outcome (task_of own.0) x there in
+    let right = c.right_outcomes_are_one_fact.ensures (task_of own.0) x there in
     λ _. fewer_waiting s.state.jobs c.post.new.self.state.jobs held c.args.job number old ts.list.items
     c.forget.new.self.list.items x (settled x) own.0 c.in_ok-post.field-0 ticket own.1 right (right.job ∙ own.2)
     (subst (λ xs. length xs + 1 ≤ length ts.list.items) (sym c.forget.ensures.list)

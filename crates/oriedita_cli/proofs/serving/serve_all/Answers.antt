@@ -1,6 +1,7 @@
 use Rattle.std.proofs.Common.{◌≡◌, true, ◌∷◌, [], ◌++◌, List, append_assoc, refl, sym, ap, subst, ◌∙◌, arith}
 use Rattle.std.specs.List.{list_all}
 use Rattle.std.proofs.lemmas.Bool.{and_parts}
+use Rattle.std.proofs.lemmas.Result.{MatchResult-from_err}
 use Rattle.script_lang.specs.declared.command.Command.{Command}
 use Rattle.script_lang.specs.Script.{meets_condition}
 use Rattle.oriedita_cli.specs.Serving.{StopsIn}
@@ -45,19 +46,19 @@ loop-command-preserved g c =
           c.loop-command.invariant.condition)).1;
       served = serves_both c.args.session.now.events c.loop-command.session.events c.serve.new.session.events
           (taken c.args.out.now) (taken c.loop-command.out) (taken c.serve.new.out)
-          c.loop-command.yielded (command ∷ []) c.loop-command.invariant.served c.in-Ok.ensures.serves;
+          c.loop-command.yielded (command ∷ []) c.loop-command.invariant.served c.in_ok-serve.ensures.serves;
       most = c.serve.ensures.most ∙ c.loop-command.invariant.most;
       helped = c.serve.ensures.helped;
       misses = omega (arith, c.loop-command.invariant.misses, c.serve.ensures.misses);
       running = misses_both _ _ _ c.args.session.now.events c.loop-command.session.events c.serve.new.session.events
           c.serve.ensures.misses c.loop-command.invariant.running c.serve.ensures.running;
-      faults = omega (arith, c.loop-command.invariant.faults, c.in-Ok.ensures.faults_stay);
+      faults = omega (arith, c.loop-command.invariant.faults, c.in_ok-serve.ensures.faults_stay);
     }
 
-pub returns-in-Err-clause-serves : goal.returns-in-Err-clause-serves
-returns-in-Err-clause-serves g c =
+pub returns-in_err-serve-clause-serves : goal.returns-in_err-serve-clause-serves
+returns-in_err-serve-clause-serves g c =
     let taken = g.K.Sink.taken in
-    subst (λ (xs : List Command). StopsIn c.args.session.now.events c.serve.new.session.events (taken c.args.out.now)
+    MatchResult-from_err c.from_residual.result _ _ c.from_residual.ensures.0 (λ _. subst (λ (xs : List Command). StopsIn c.args.session.now.events c.serve.new.session.events (taken c.args.out.now)
     (taken c.serve.new.out) xs)
     (sym (c.loop-command.invariant.split
     ∙ ap (λ (xs : List Command). c.loop-command.yielded ++ xs) c.in-Some.ensures.steps.0))
@@ -65,4 +66,4 @@ returns-in-Err-clause-serves g c =
     (taken c.loop-command.out) (taken c.serve.new.out)
     c.loop-command.yielded
     (c.in-Some.command ∷ []) c.next.new.self.rest.items c.loop-command.invariant.served
-    c.in-Err.ensures.serves)
+    c.in_err-serve.ensures.serves))
