@@ -4,7 +4,7 @@ use Rattle.worker_split.specs.declared.outcome.Outcome.{Outcome}
 use Rattle.worker_split.specs.Tasks.{task_of, IsRightOutcome}
 use Rattle.fold_jobs.specs.Machine.{IsRightIn}
 use Rattle.fold_jobs.proofs.Right.{right_posts}
-use Rattle.fold_jobs.proofs.tests.performed.Goals as goal
+use Rattle.worked_search.proofs.jobs.performed.Goals as goal
 
 pub post-requires : goal.post-requires
 post-requires c =

@@ -1,4 +1,4 @@
-use crate::{FoldAnswer, JobRefusal, Jobs, OpenFault};
+use fold_jobs::{FoldAnswer, JobRefusal, Jobs, OpenFault};
 use sign_rules::{Order, Rule, Rules, Sign};
 use std::alloc::{AllocError, Global};
 use std::process::Abort;

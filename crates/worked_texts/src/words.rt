@@ -1,6 +1,6 @@
 //! Tables of words, worked by hand.
 
-use super::*;
+use program_words::{WordsFault, read_words};
 use std::alloc::{AllocError, Global};
 use std::test::Fail;
 
