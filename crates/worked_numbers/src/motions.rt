@@ -1,13 +1,13 @@
-ghost use Rattle.std.specs.Prelude.{◌≡◌, ◌*◌, ◌+◌, ◌^◌, ◌≤◌};
-ghost use Rattle.surd_number.specs.Number.{FitsOver};
-ghost use Rattle.surd_number.specs.Value.{wide_number_of};
+//! Reflections and chains of them, worked with exact fractions in another language.
+
+ghost use Rattle.std.specs.Prelude.{◌*◌, ◌^◌, ◌≤◌};
 ghost use Rattle.isometry_map.specs.IsometryView.{motion_of};
 ghost use Rattle.isometry_map.specs.Motion.{IsReflection, IsShiftWithin};
 
-use super::*;
+use isometry_map::{Isometry, Linear};
 use plane_geometry::{Dir, Line, Point};
 use std::test::Fail;
-use surd_number::{Surd, Wide};
+use surd_number::Surd;
 
 fn whole_point(x: i32, y: i32) -> Point {
     Point {
@@ -37,8 +37,8 @@ fn image(x: i32, y: i32, direction: u8) -> ((i128, i128, u8), (i128, i128, u8)) 
 
 // So many reflections one after another, in one line and another by turns.
 fn zigzag(count: u16, even: &Line, odd: &Line) -> Isometry
-    requires { count ≤ 256 }
-    ensures { IsShiftWithin (256 * 2 ^ 57) (motion_of result) }
+    requires { count ≤ 32768 }
+    ensures { IsShiftWithin (32768 * 2 ^ 57) (motion_of result) }
 {
     let mut chain = Isometry::identity();
     for i in 0..count {
@@ -46,20 +46,6 @@ fn zigzag(count: u16, even: &Line, odd: &Line) -> Isometry
         chain = chain.after(&Isometry::reflection(line));
     }
     chain
-}
-
-// The product with 2^times.
-fn doubled(w: Wide, times: u8) -> Wide
-    requires few { times ≤ 18 }
-    requires fits { FitsOver (2 ^ 52) 16 (wide_number_of w) }
-    ensures { FitsOver (2 ^ 72) 18 (wide_number_of result) }
-{
-    let mut product = w;
-    for step in 0..times {
-        prove!(step < times);
-        product = product.plus(&product);
-    }
-    product
 }
 
 #[test]
@@ -125,27 +111,36 @@ fn a_chain_of_256_reflections(rt: HostRuntime) {
     assert_eq!(rt; end.y.parts(), (-549755813630, -549755813632, 0));
 }
 
+// As many reflections as may be composed but one, in lines at the edge of the numbers: a shift of more than a third
+// of the widest.
 #[test]
-fn the_widest_shift(rt: HostRuntime) -> Result<(), Fail> {
+fn a_wide_shift(rt: HostRuntime) -> Result<(), Fail> {
     let limit = 1i64 << 36;
-    let widest = doubled(Wide::of(&Surd::new(limit, -limit, 0)?), 18);
-    let opposite = doubled(Wide::of(&Surd::new(-limit, limit, 0)?), 18);
-    let far = Isometry::shifted(
-        Linear::reflection(Dir::new(1).ok_or("1")?),
-        widest,
-        opposite,
+    let edge = Surd::new(limit, -limit, 0)?;
+    let opposite = Surd::new(-limit, limit, 0)?;
+    let slanted = Dir::new(1).ok_or("1")?;
+    let chain = zigzag(
+        32767,
+        &Line::through(&Point { x: edge, y: edge }, slanted),
+        &Line::through(
+            &Point {
+                x: opposite,
+                y: opposite,
+            },
+            slanted,
+        ),
     );
-    let end = far.apply(&Point {
+    let end = chain.apply(&Point {
         x: Surd::new(limit, limit, 0)?,
         y: Surd::new(-limit, limit - 1, 16)?,
     });
     assert_eq!(rt;
         end.x.parts(),
-        (1180596124385758150655, -1180589368951957356544, 16)
+        (442712850638493974527, -295136646214644137984, 16)
     );
     assert_eq!(rt;
         end.y.parts(),
-        (-1180587117186503409663, 1180593872551584727040, 16)
+        (147573952520956936193, -147567197155875618816, 16)
     );
     Ok(())
 }
