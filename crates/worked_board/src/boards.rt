@@ -1,7 +1,8 @@
+//! What a board answers its seats, alone and in two threads.
+
 ghost use Rattle.std.specs.Prelude.{◌≡◌, ◌+◌, IsSome};
 ghost use Rattle.std.specs.Arc.{arc_value};
 
-use super::*;
 use std::alloc::{AllocError, Global};
 use std::marker::Brand;
 use std::process::Abort;
@@ -10,6 +11,9 @@ use std::sync::ledger::{Blank, Ledger};
 use std::sync::{Arc, Wait};
 use std::test::*;
 use std::thread::{Threads, join_mut, yield_now};
+use task_board::{
+    Board, Event, Helpers, History, NoGate, Obtained, OverBoard, PutFault, Seat, Step, Work, serve,
+};
 
 /// Doubles a number, and raises a flag first.
 #[derive(Drop)]
@@ -237,78 +241,88 @@ fn fetched<'a, L: Ledger, R: Wait>(
 }
 
 #[test]
-fn every_answer_of_the_state(rt: HostRuntime) -> Result<(), Fail> {
+fn a_take_or_obtain_may_have_to_wait(rt: HostRuntime) -> Result<(), Fail> {
+    let mut history = History::open(rt.alloc())?;
+    assert!(rt; history.take(1).is_err());
+    assert_eq!(rt; history.put(0).ok(), Some(1));
+    assert_eq!(rt; history.take(1).ok().flatten(), Some(1));
+    assert!(rt; history.obtain(0, 1).is_err());
+    assert_eq!(rt; history.count(), 2);
+    Ok(())
+}
+
+#[test]
+fn every_answer_of_the_board(rt: HostRuntime) -> Result<(), Fail> {
     answers::<Brand, _>(&rt, rt.alloc(), Blank::new(2))
 }
 
-fn answers<L: Ledger, R: Abort>(rt: &R, alloc: Global, blank: Blank) -> Result<(), Fail>
+fn answers<L: Ledger, R: Wait + Abort>(rt: &R, alloc: Global, blank: Blank) -> Result<(), Fail>
     requires name { blank.name ≡ L.name }
     requires parts { blank.parts ≡ L.parts }
     requires two { blank.parts ≡ 2 }
 {
-    let (calls, mut share) = blank.open::<L>();
-    let mut state = BoardState::<Doubling, L>::open(alloc, calls)?;
-    let mut a = Seat::open(0, share.split_off(1, 0));
-    let mut b = Seat::open(1, share);
-    first_answers(rt, alloc, &mut state, &mut a, &mut b)?;
-    last_answers(rt, alloc, &mut state, &mut a, &mut b)?;
+    let (board, mut seats) = Board::<Doubling, L>::open(alloc, blank, 2)?;
+    let mut b = seats.pop().ok_or("a seat")?;
+    let mut a = seats.pop().ok_or("a seat")?;
+    first_answers(rt, alloc, &board, &mut a, &mut b)?;
+    last_answers(rt, alloc, &board, &mut a, &mut b)?;
     assert_eq!(rt; (a.made(), b.made()), (11, 6));
-    same_events(rt, state.history().events());
+    seats.push(a)?;
+    seats.push(b)?;
+    same_events(rt, board.shut(seats).history().events());
     Ok(())
 }
 
 /// Three tasks are put; the first is taken and posted, the second taken out.
-fn first_answers<L: Ledger, R: Abort>(
+fn first_answers<L: Ledger, R: Wait + Abort>(
     rt: &R,
     alloc: Global,
-    state: &mut BoardState<Doubling, L>,
+    board: &Board<Doubling, L>,
     a: &mut Seat<L>,
     b: &mut Seat<L>,
 ) -> Result<(), Fail> {
     let work = make_doubling();
-    assert!(rt; state.take(b).is_err());
     for number in 1..4u32 {
         let task = Arc::new(alloc, number)?;
-        assert_eq!(rt; state.put(a, task).ok(), Some(number));
+        assert_eq!(rt; board.put(rt, a, task).ok(), Some(number));
     }
-    let (ticket, task) = state.take(b).ok().flatten().ok_or("a task")?;
+    let (ticket, task) = board.take(rt, b).ok_or("a task")?;
     assert_eq!(rt; (ticket, *task), (1, 1));
-    assert!(rt; state.obtain(a, 1).is_err());
     let copy = Arc::try_clone(&task)?;
     let outcome = work.perform(alloc, &copy)?;
-    assert!(rt; !state.post(a, 1, copy, outcome));
-    assert!(rt; !state.give_back(b, 2));
+    assert!(rt; !board.post(rt, a, 1, copy, outcome));
+    assert!(rt; !board.give_back(rt, b, 2));
     let outcome = work.perform(alloc, &task)?;
-    assert!(rt; state.post(b, 1, task, outcome));
-    assert!(rt; state.fetch(b, 1)?.is_none());
-    let (task, outcome) = state.obtain(a, 1).ok().flatten().ok_or("an outcome")?;
+    assert!(rt; board.post(rt, b, 1, task, outcome));
+    assert!(rt; board.fetch(rt, b, 1)?.is_none());
+    let (task, outcome) = board.obtain(rt, a, 1).ok_or("an outcome")?;
     assert_eq!(rt; (*task, outcome), (1, 2));
     for ticket in [1, 2] {
-        assert!(rt; matches!(state.obtain(a, ticket), Ok(None)));
+        assert!(rt; board.obtain(rt, a, ticket).is_none());
     }
     Ok(())
 }
 
 /// The third is given back, and the board closed.
-fn last_answers<L: Ledger, R: Abort>(
+fn last_answers<L: Ledger, R: Wait + Abort>(
     rt: &R,
     alloc: Global,
-    state: &mut BoardState<Doubling, L>,
+    board: &Board<Doubling, L>,
     a: &mut Seat<L>,
     b: &mut Seat<L>,
 ) -> Result<(), Fail> {
-    let (ticket, _task) = state.take(b).ok().flatten().ok_or("a task")?;
+    let (ticket, _task) = board.take(rt, b).ok_or("a task")?;
     assert_eq!(rt; ticket, 3);
-    assert!(rt; state.give_back(b, 3));
-    assert!(rt; state.fetch(a, 3)?.is_none());
-    assert!(rt; matches!(state.obtain(a, 3), Ok(None)));
-    assert!(rt; state.fetch(a, 9)?.is_none());
-    assert!(rt; state.close(b) && !state.close(b) && state.close(a));
+    assert!(rt; board.give_back(rt, b, 3));
+    assert!(rt; board.fetch(rt, a, 3)?.is_none());
+    assert!(rt; board.obtain(rt, a, 3).is_none());
+    assert!(rt; board.fetch(rt, a, 9)?.is_none());
+    assert!(rt; board.close(rt, b) && !board.close(rt, b) && board.close(rt, a));
     for _ in 0..2u8 {
-        assert!(rt; matches!(state.take(a), Ok(None)));
+        assert!(rt; board.take(rt, a).is_none());
     }
     let task = Arc::new(alloc, 8)?;
-    let put = state.put(a, task);
+    let put = board.put(rt, a, task);
     assert!(rt; matches!(put, Err(PutFault::Closed(_))));
     Ok(())
 }
