@@ -7,7 +7,7 @@ use Rattle.plane_geometry.specs.DirView.{dir_number}
 use Rattle.plane_geometry.specs.Polygon.{turns_of, is_convex_turn, directions_of, have_directions, is_convex}
 use Rattle.std.specs.declared.vec.Vec.{Vec}
 use Rattle.std.specs.declared.alloc.Global.{Global}
-use Rattle.layer_rules.proofs.shapes.is_convex.Goals as goal
+use Rattle.worked_layers.proofs.shapes.is_convex.Goals as goal
 
 abbrev TurnsRound : List ℕ → Type 0
 TurnsRound ns = IsTrue (list_all is_convex_turn (turns_of ns)) × IsTrue (nat_eq (sum (turns_of ns)) 16)

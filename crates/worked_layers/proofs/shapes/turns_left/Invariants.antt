@@ -2,7 +2,7 @@ use Rattle.std.proofs.Common.{◌≡◌, ◌∷◌, drop, map}
 use Rattle.std.specs.List.{list_all}
 use Rattle.plane_geometry.specs.DirView.{dir_number}
 use Rattle.plane_geometry.specs.Polygon.{turns_from, is_convex_turn}
-use Rattle.layer_rules.proofs.shapes.turns_left.Given as goal
+use Rattle.worked_layers.proofs.shapes.turns_left.Given as goal
 
 abbrev pub invariant-loop-d : goal.invariant-loop-d
 invariant-loop-d l =

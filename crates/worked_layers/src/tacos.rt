@@ -1,8 +1,8 @@
 //! Rules of taco-tortilla and taco-taco, and how many lists break none, worked with exact fractions in another language.
 
+use crate::pairs::{CROSS, FAN_1, FAN_2, FAN_3, FAN_4, STRIPS, TOUCHING, WATERBOMB};
 use crate::shapes::{Row, shape};
-use crate::tests::{CROSS, FAN_1, FAN_2, FAN_3, FAN_4, STRIPS, TOUCHING, WATERBOMB};
-use crate::{order_rules, pairs, taco_rules, tortilla_rules};
+use layer_rules::{order_rules, pairs, taco_rules, tortilla_rules};
 use sign_rules::{Rule, Sign};
 use std::alloc::{AllocError, Global};
 use std::test::Fail;

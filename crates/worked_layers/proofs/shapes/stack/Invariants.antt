@@ -1,7 +1,7 @@
 use Rattle.std.proofs.Common.{◌≡◌, length}
 use Rattle.std.specs.Bool.{IsTrue}
 use Rattle.isometry_map.specs.Folded.{are_convex_faces}
-use Rattle.layer_rules.proofs.shapes.stack.Given as goal
+use Rattle.worked_layers.proofs.shapes.stack.Given as goal
 
 abbrev pub invariant-loop-i : goal.invariant-loop-i
 invariant-loop-i l = record {

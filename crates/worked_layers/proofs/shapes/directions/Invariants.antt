@@ -3,7 +3,7 @@ use Rattle.std.specs.List.{list_all}
 use Rattle.plane_geometry.specs.DirView.{dir_number}
 use Rattle.plane_geometry.specs.Polygon.{side_number, has_direction, directions_of, have_directions}
 use Rattle.plane_geometry.specs.PolygonLaws.{sides_left}
-use Rattle.layer_rules.proofs.shapes.directions.Given as goal
+use Rattle.worked_layers.proofs.shapes.directions.Given as goal
 
 abbrev pub invariant-loop-i : goal.invariant-loop-i
 invariant-loop-i l = record {

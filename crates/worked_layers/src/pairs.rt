@@ -1,10 +1,9 @@
 //! Pairs and rules of folded shapes, worked with exact fractions in another language.
 
-use crate::places::place;
 use crate::shapes::{Row, shape, stack};
-use crate::{FacePair, PairsFault, crease_rules, instance, pairs, transitivity_rules};
 use crease_model::Kind::{Mountain, Valley};
 use crease_model::{Pattern, Sheet};
+use layer_rules::{FacePair, PairsFault, crease_rules, instance, pairs, transitivity_rules};
 use sign_rules::Rule;
 use sign_rules::Sign::{self, Over, Under};
 use std::test::Fail;
@@ -49,23 +48,6 @@ fn finds_pairs_and_rules(rt: HostRuntime) -> Result<(), Fail> {
             assert!(rt; are_fixed(rules.as_slice(), row.fixed));
             let circles = transitivity_rules(rt.alloc(), &folded, found.as_slice())?;
             assert!(rt; are_circles(circles.as_slice(), row.circles));
-        }
-    }
-    Ok(())
-}
-
-#[test]
-fn finds_places_as_a_scan_does(rt: HostRuntime) -> Result<(), Fail> {
-    for row in [TOUCHING, WATERBOMB] {
-        let folded = shape(rt.alloc(), &row)?;
-        if folded.faces().len() <= 65536 {
-            let found = pairs(&rt, rt.alloc(), &folded)?;
-            for i in 0..8 {
-                for j in 0..8 {
-                    let scanned = found.iter().position(|pair| pair.i == i && pair.j == j);
-                    assert_eq!(rt; place(found.as_slice(), i, j), scanned);
-                }
-            }
         }
     }
     Ok(())

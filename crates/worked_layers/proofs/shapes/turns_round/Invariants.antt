@@ -2,7 +2,7 @@ use Rattle.std.proofs.Common.{◌≡◌, ◌+◌, ◌≤◌, ◌∷◌, drop, ma
 use Rattle.std.specs.List.{sum}
 use Rattle.plane_geometry.specs.DirView.{dir_number}
 use Rattle.plane_geometry.specs.Polygon.{turns_from}
-use Rattle.layer_rules.proofs.shapes.turns_round.Given as goal
+use Rattle.worked_layers.proofs.shapes.turns_round.Given as goal
 
 abbrev pub invariant-loop-d : goal.invariant-loop-d
 invariant-loop-d l = record {
