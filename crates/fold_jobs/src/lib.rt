@@ -9,6 +9,3 @@ mod refusal;
 pub use folding_job::{FoldAnswer, FoldingJob};
 pub use jobs::{Jobs, OpenFault};
 pub use refusal::JobRefusal;
-
-#[cfg(test)]
-mod tests;

@@ -48,20 +48,6 @@ impl Isometry {
         }
     }
 
-    /// The isometry with these parts.
-    #[cfg(test)]
-    pub(crate) fn shifted(linear: Linear, x: Wide, y: Wide) -> Isometry
-        ensures { motion_of result ≡ record {
-          linear = linear_number linear;
-          shift = record { x = wide_number_of x; y = wide_number_of y };
-        } }
-    {
-        Isometry {
-            linear,
-            shift: WidePoint { x, y },
-        }
-    }
-
     /// The reflection in the line.
     pub fn reflection(line: &Line) -> Isometry
         ensures mirror { IsReflectionIn line.now (motion_of result) }

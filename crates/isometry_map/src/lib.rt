@@ -6,8 +6,6 @@ mod folded;
 mod isometries;
 pub mod laws;
 mod linear_parts;
-#[cfg(test)]
-mod tests;
 mod wide_points;
 
 pub use folded::{CreaseImage, Folded, FoldedFace, PointList};

@@ -12,13 +12,7 @@ mod places;
 mod regions;
 mod rule_lists;
 mod rule_order;
-#[cfg(test)]
-mod shapes;
-#[cfg(test)]
-mod taco_tests;
 mod tacos;
-#[cfg(test)]
-mod tests;
 mod tortillas;
 
 pub use circles::transitivity_rules;

@@ -6,7 +6,5 @@ mod form;
 mod meaning;
 mod options;
 mod parsing;
-#[cfg(test)]
-mod tests;
 
 pub use options::{Options, WordsFault, read_words};

@@ -31,6 +31,3 @@ pub use seat::Seat;
 pub use state::BoardState;
 pub use work::Work;
 pub use worker::serve;
-
-#[cfg(test)]
-mod tests;

@@ -7,8 +7,6 @@ mod fans;
 mod faults;
 mod laws;
 mod sectors;
-#[cfg(test)]
-mod tests;
 mod vertices;
 mod writing;
 

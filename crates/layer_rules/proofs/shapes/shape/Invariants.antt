@@ -1,6 +1,0 @@
-use Rattle.std.specs.Bool.{IsTrue}
-use Rattle.isometry_map.specs.Folded.{are_convex_faces}
-use Rattle.layer_rules.proofs.shapes.shape.Given as goal
-
-abbrev pub invariant-loop-turned : goal.invariant-loop-turned
-invariant-loop-turned l = IsTrue (are_convex_faces l.faces.items)
