@@ -11,8 +11,8 @@ use Rattle.plane_geometry.specs.declared.Segment.{Segment}
 use Rattle.plane_geometry.specs.declared.SegmentFault.{SegmentFault}
 use Rattle.plane_geometry.specs.declared.SegmentFault.TheVariants.{ZeroLength, BadDirection}
 use Rattle.plane_geometry.specs.Position.{Position, position_of}
-use Rattle.plane_geometry.specs.Direction.{side_of, is_along, is_positive, is_negative}
-use Rattle.plane_geometry.specs.DirectionLaws.{along_unique, along_back, opposite_number}
+use Rattle.plane_geometry.specs.Direction.{side_of, is_along, is_positive, is_negative, opposite_number}
+use Rattle.plane_geometry.specs.DirectionLaws.{along_unique, along_back}
 use Rattle.plane_geometry.specs.Ends.{GoesAlong, HaveBadDirection}
 use Rattle.plane_geometry.specs.Polygon.{sides_of, have_directions}
 use Rattle.plane_geometry.specs.Stretch.{Stretch}

@@ -3,18 +3,18 @@ use Rattle.std.proofs.Common.{◌≡◌, ℕ, ◌+◌, ◌%◌, true, false, not
 use Rattle.std.proofs.lemmas.Bool.{and_parts, and_from, not-true, both_ways}
 use Rattle.surd_number.specs.declared.Sgn.{Sgn}
 use Rattle.surd_number.specs.declared.Sgn.TheVariants.{Neg, Zero, Pos}
-use Rattle.surd_number.specs.SignLaws.{opposite_sign, times_sign}
+use Rattle.surd_number.specs.Number.{opposite_sign, times_sign}
 use Rattle.plane_geometry.specs.declared.Point.{Point}
 use Rattle.plane_geometry.specs.declared.Segment.{Segment}
 use Rattle.plane_geometry.specs.Position.{position_of, vector_of}
-use Rattle.plane_geometry.specs.Direction.{direction_vector, side_of, is_negative, is_along}
+use Rattle.plane_geometry.specs.Direction.{direction_vector, side_of, is_negative, is_along, opposite_number}
 use Rattle.plane_geometry.specs.SegmentView.{lesser_end, greater_end, direction_number, stretch_of}
 use Rattle.plane_geometry.specs.Stored.{IsStretch}
 use Rattle.plane_geometry.specs.Stretch.{Stretch, is_end, is_crossing, has_same_ends, ends_at_ends, MeetAtEnds}
 use Rattle.plane_geometry.specs.SideLaws.{lex_sign, order_of, order_self, order_turned, side_same, side_from, square_sign, along_lex}
 use Rattle.plane_geometry.specs.StretchLaws.{order_from, order_to, turned_zero, side_to, LiesOn, ends_order, to_in_line, along_sign, on_from_parts, end_from, end_to}
 use Rattle.plane_geometry.specs.CommonPointLaws.{from_lies, to_lies, meeting_is}
-use Rattle.plane_geometry.specs.DirectionLaws.{opposite_number, along_parts, along_back}
+use Rattle.plane_geometry.specs.DirectionLaws.{along_parts, along_back}
 
 -- ---- stretches on one ray
 

@@ -8,16 +8,16 @@ use Rattle.std.specs.Ordering.{is_lt}
 use Rattle.std.proofs.lemmas.Bool.{true≢false, false≢true, agree_below, agree_below_at, and_parts, and_from, or_parts, or_from, or_cases, or_left, or_right, not-true, not_from_false, false_from_ne_true, both_ways}
 use Rattle.surd_number.specs.declared.Sgn.{Sgn}
 use Rattle.surd_number.specs.declared.Sgn.TheVariants.{Neg, Zero, Pos}
-use Rattle.surd_number.specs.SignLaws.{opposite_sign, times_sign}
+use Rattle.surd_number.specs.Number.{opposite_sign, times_sign}
 use Rattle.plane_geometry.specs.declared.Point.{Point}
 use Rattle.plane_geometry.specs.declared.Segment.{Segment}
 use Rattle.plane_geometry.specs.Position.{Position, position_of, vector_of, compare_positions}
-use Rattle.plane_geometry.specs.Direction.{direction_vector, side_of, is_positive, is_negative, is_along, direction_among, direction_of}
+use Rattle.plane_geometry.specs.Direction.{direction_vector, side_of, is_positive, is_negative, is_along, direction_among, direction_of, turn_sign}
 use Rattle.plane_geometry.specs.Stored.{IsStretch}
 use Rattle.plane_geometry.specs.Stretch.{Stretch, is_on}
 use Rattle.plane_geometry.specs.SegmentOf.{is_segment, segment_by, segment_from, segment_of}
 use Rattle.plane_geometry.specs.SegmentView.{stretch_of}
-use Rattle.plane_geometry.specs.SideLaws.{may_sum, order_of, order_self, order_turned, order_chain, side_chain, side_turned, side_from, square_sign, along_cross, product_by_zero, opposite_twice, turn_sign}
+use Rattle.plane_geometry.specs.SideLaws.{may_sum, order_of, order_self, order_turned, order_chain, side_chain, side_turned, side_from, square_sign, along_cross, product_by_zero, opposite_twice}
 use Rattle.plane_geometry.specs.StretchLaws.{before_is, LiesOn, positive_is, negative_is, ends_order, to_in_line, side_self, on_parts, on_from_parts}
 use Rattle.plane_geometry.specs.DirectionLaws.{along_parts}
 use Rattle.plane_geometry.specs.CommonPointLaws.{line_through, side_on_line, turn_turned}

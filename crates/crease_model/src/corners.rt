@@ -9,13 +9,6 @@ ghost use Rattle.crease_model.specs.NewSheet.{side_directions, last_direction, i
 use plane_geometry::{Dir, Point, direction, next_corner};
 use std::alloc::{AllocError, Global};
 
-// The turn from one direction to the next, in steps of 22.5 degrees counterclockwise.
-fn turn(before: Dir, after: Dir) -> u8
-    ensures { result ≡ turn_of (dir_number before) (dir_number after) }
-{
-    (after.number() + 16 - before.number()) % 16
-}
-
 // The turn at a corner, None where it is bad; 0 where the side before has no direction.
 fn turn_at(before: Option<Dir>, after: Option<Dir>) -> Option<u8>
     ensures { MatchOption result
@@ -28,7 +21,7 @@ fn turn_at(before: Option<Dir>, after: Option<Dir>) -> Option<u8>
         (_, None) => None,
         (None, Some(_)) => Some(0),
         (Some(before), Some(after)) => {
-            let turn = turn(before, after);
+            let turn = before.turn_to(after);
             if turn < 1 || turn > 7 {
                 None
             } else {

@@ -19,8 +19,8 @@ use Rattle.crease_model.specs.Rules.{AllMeetAtEnds}
 use Rattle.line_split.specs.Cuts.{cuts_of, is_touched, untouched, touched}
 use Rattle.line_split.specs.CutLaws.{cuts_are_cuts, cuts_are_all, cuts_ascend}
 use Rattle.line_split.specs.MemberLaws.{Member, member, contained, filter_member, member_filter, member_left, member_right, member_either}
-use Rattle.line_split.specs.Parts.{parts_of}
-use Rattle.line_split.specs.PartLaws.{IsPartEnd, IsPart, parts_are_parts, parts_are_all, part_is_on}
+use Rattle.line_split.specs.Parts.{parts_of, IsPartEnd, IsPart}
+use Rattle.line_split.specs.PartLaws.{parts_are_parts, parts_are_all, part_is_on}
 use Rattle.crease_store.specs.Added.{covers, is_vertex, HasAddedKind, IsPieceOfAdd}
 use Rattle.crease_store.specs.InOrder.{segment_at, HaveOneOnEach}
 use Rattle.crease_store.specs.Adding.{rest_of, rests_of, new_pieces, pieces_with}

@@ -13,7 +13,7 @@ use Rattle.crease_model.specs.declared.Kind.{Kind}
 use Rattle.crease_model.specs.declared.Piece.{Piece}
 use Rattle.crease_model.specs.View.{PatternView}
 use Rattle.crease_model.specs.Rules.{IsPattern, AllMeetAtEnds, is_ascending, is_crease, is_crease_kind, is_on_sheet, segments_of}
-use Rattle.crease_store.specs.Changed.{has_ends, without_piece, without_line, in_kind, with_kind}
+use Rattle.crease_store.specs.Changed.{joins_points, without_piece, without_line, in_kind, with_kind}
 use Rattle.crease_store.proofs.Ascending.{filter_ascends}
 
 -- ---- what is kept of a list
@@ -34,7 +34,7 @@ meetings-filter keep (p ∷ ps) all =
 
 pub IsPattern-without_piece : (pattern : PatternView) (p q : Point) → IsPattern pattern → IsPattern (without_piece pattern p q)
 IsPattern-without_piece pattern p q old =
-    let keep : Piece → Bool = λ piece. not (has_ends p q piece.segment) in
+    let keep : Piece → Bool = λ piece. not (joins_points p q piece.segment) in
     record {
       creases = all-filter keep (λ r. IsTrue (is_crease pattern.corners r)) pattern.pieces old.creases;
       meetings = meetings-filter keep pattern.pieces old.meetings;
@@ -45,7 +45,7 @@ IsPattern-without_piece pattern p q old =
 
 pub IsPattern-without_line : (pattern : PatternView) (p q : Point) → IsPattern pattern → IsPattern (without_line pattern p q)
 IsPattern-without_line pattern p q old =
-    let keep : Segment → Bool = λ s. not (has_ends p q s) in
+    let keep : Segment → Bool = λ s. not (joins_points p q s) in
     record {
       creases = old.creases;
       meetings = old.meetings;
@@ -79,11 +79,11 @@ all-map P f keeps (p ∷ ps) all = (keeps p all.0, all-map P f keeps ps all.1)
 
 pub segment_stays : (kind : Kind) (p q : Point) (piece : Piece) → (in_kind kind p q piece).segment ≡ piece.segment
 segment_stays kind p q piece =
-    elim (has_ends p q piece.segment) as (λ b. (cond b (record piece { kind = kind }) piece).segment ≡ piece.segment) [ true ↦ refl | false ↦ refl ]
+    elim (joins_points p q piece.segment) as (λ b. (cond b (record piece { kind = kind }) piece).segment ≡ piece.segment) [ true ↦ refl | false ↦ refl ]
 
 stays_crease : (corners : List Point) (kind : Kind) (p q : Point) → is_crease_kind kind ≡ true → (piece : Piece) → is_crease corners piece ≡ true → is_crease corners (in_kind kind p q piece) ≡ true
 stays_crease corners kind p q is_kind piece old =
-    elim (has_ends p q piece.segment) as (λ b. is_crease corners (cond b (record piece { kind = kind }) piece) ≡ true) [
+    elim (joins_points p q piece.segment) as (λ b. is_crease corners (cond b (record piece { kind = kind }) piece) ≡ true) [
       | true ↦ and_from (is_crease_kind kind) _ is_kind (and_parts (is_crease_kind piece.kind) _ old).1
       | false ↦ old
     ]

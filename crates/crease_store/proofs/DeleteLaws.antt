@@ -24,7 +24,7 @@ use Rattle.crease_store.specs.declared.faults.StoreRefusal.{StoreRefusal}
 use Rattle.crease_store.specs.declared.faults.StoreRefusal.TheVariants.{NoSuchPiece}
 use Rattle.crease_store.specs.Answer.{IsAnswer, HasMemory}
 use Rattle.crease_store.specs.InOrder.{segment_at, line_at}
-use Rattle.crease_store.specs.Changed.{has_ends, stands_between, without_piece, without_line, delete_of, in_kind, with_kind, set_of, HasEnds, HasPiece, HasLine, IsPieceTaken, IsLineTaken, IsDeleted, IsKindSet}
+use Rattle.crease_store.specs.Changed.{joins_points, stands_between, without_piece, without_line, delete_of, in_kind, with_kind, set_of, JoinsPoints, HasPiece, HasLine, IsPieceTaken, IsLineTaken, IsDeleted, IsKindSet}
 use Rattle.line_split.specs.MemberLaws.{Member, member, contained, any_member, member_any, filter_member, member_filter}
 use Rattle.crease_store.proofs.Changes.{IsPattern-without_piece, IsPattern-without_line, same_segments, segment_stays}
 use Rattle.crease_store.proofs.Chains.{same_point, point_self}
@@ -32,17 +32,17 @@ use Rattle.crease_store.proofs.Refused.{refused_where}
 
 -- ---- the ends
 
-ends_parts : (p q : Point) (s : Segment) → has_ends p q s ≡ true → HasEnds p q s
+ends_parts : (p q : Point) (s : Segment) → joins_points p q s ≡ true → JoinsPoints p q s
 ends_parts p q s e =
     go (is_lt (compare_positions (position_of p) (position_of q)))
     (same_point (lesser_end s) (lesser_of p q) (and_parts (is_same_position (position_of (lesser_end s)) (position_of (lesser_of p q))) _ e).0)
     (same_point (greater_end s) (greater_of p q) (and_parts (is_same_position (position_of (lesser_end s)) (position_of (lesser_of p q))) _ e).1)
   where
-    go : (b : Bool) → lesser_end s ≡ cond b p q → greater_end s ≡ cond b q p → HasEnds p q s
+    go : (b : Bool) → lesser_end s ≡ cond b p q → greater_end s ≡ cond b q p → JoinsPoints p q s
     go true f g = inl (f, g)
     go false f g = inr (f, g)
 
-ends_from : (p q : Point) (s : Segment) → HasEnds p q s → has_ends p q s ≡ true
+ends_from : (p q : Point) (s : Segment) → JoinsPoints p q s → joins_points p q s ≡ true
 ends_from p q s (inl w) =
     let before : is_lt (compare_positions (position_of p) (position_of q)) ≡ true =
     ap₂ (λ (a b : Point). is_lt (compare_positions (position_of a) (position_of b))) (sym w.0) (sym w.1) ∙ s.stretch.0 in
@@ -58,28 +58,28 @@ ends_from p q s (inr w) =
     (point_self (lesser_end s) (lesser_of p q) (w.0 ∙ sym (ap (λ b. cond b p q) after)))
     (point_self (greater_end s) (greater_of p q) (w.1 ∙ sym (ap (λ b. cond b q p) after)))
 
-kept_from : (p q : Point) (s : Segment) → (HasEnds p q s → ⊥) → not (has_ends p q s) ≡ true
-kept_from p q s none = not_from_false (has_ends p q s) (false_from_ne_true (has_ends p q s) (λ e. none (ends_parts p q s e)))
+kept_from : (p q : Point) (s : Segment) → (JoinsPoints p q s → ⊥) → not (joins_points p q s) ≡ true
+kept_from p q s none = not_from_false (joins_points p q s) (false_from_ne_true (joins_points p q s) (λ e. none (ends_parts p q s e)))
 
-kept_parts : (p q : Point) (s : Segment) → not (has_ends p q s) ≡ true → HasEnds p q s → ⊥
-kept_parts p q s e w = true≢false (sym (ends_from p q s w) ∙ not-true (has_ends p q s) e)
+kept_parts : (p q : Point) (s : Segment) → not (joins_points p q s) ≡ true → JoinsPoints p q s → ⊥
+kept_parts p q s e w = true≢false (sym (ends_from p q s w) ∙ not-true (joins_points p q s) e)
 
 -- ---- what there is
 
 module _ {X : Type 0} (segment_at : X → Segment) (xs : List X) (p q : Point) where
-  one_there : stands_between segment_at xs p q ≡ true → (x : X) × Contains xs x × HasEnds p q (segment_at x)
+  one_there : stands_between segment_at xs p q ≡ true → (x : X) × Contains xs x × JoinsPoints p q (segment_at x)
   one_there e =
-      let w = any_member (λ x. has_ends p q (segment_at x)) xs e in
+      let w = any_member (λ x. joins_points p q (segment_at x)) xs e in
       (w.0, contained xs w.0 w.1, ends_parts p q (segment_at w.0) w.2)
 
-  none_there : stands_between segment_at xs p q ≡ false → (x : X) × Contains xs x × HasEnds p q (segment_at x) → ⊥
-  none_there e w = true≢false (sym (member_any (λ x. has_ends p q (segment_at x)) xs w.0 (member xs w.0 w.1) (ends_from p q (segment_at w.0) w.2)) ∙ e)
+  none_there : stands_between segment_at xs p q ≡ false → (x : X) × Contains xs x × JoinsPoints p q (segment_at x) → ⊥
+  none_there e w = true≢false (sym (member_any (λ x. joins_points p q (segment_at x)) xs w.0 (member xs w.0 w.1) (ends_from p q (segment_at w.0) w.2)) ∙ e)
 
 -- ---- taking away
 
 piece_taken : (old : PatternView) (p q : Point) → IsPattern old → stands_between segment_at old.pieces p q ≡ true → IsPieceTaken old p q (without_piece old p q)
 piece_taken old p q rules e =
-    let keep : Piece → Bool = λ piece. not (has_ends p q piece.segment) in
+    let keep : Piece → Bool = λ piece. not (joins_points p q piece.segment) in
     record {
       there = one_there segment_at old.pieces p q e;
       corners = refl;
@@ -93,7 +93,7 @@ piece_taken old p q rules e =
 
 line_taken : (old : PatternView) (p q : Point) → IsPattern old → stands_between segment_at old.pieces p q ≡ false → stands_between line_at old.aux p q ≡ true → IsLineTaken old p q (without_line old p q)
 line_taken old p q rules none e =
-    let keep : Segment → Bool = λ s. not (has_ends p q s) in
+    let keep : Segment → Bool = λ s. not (joins_points p q s) in
     record {
       no_piece = none_there segment_at old.pieces p q none;
       there = one_there line_at old.aux p q e;
@@ -118,31 +118,31 @@ delete_takes_away old p q rules = go (stands_between segment_at old.pieces p q) 
 -- ---- another kind
 
 module _ (kind : Kind) (p q : Point) where
-  turned_is : (z : Piece) → has_ends p q z.segment ≡ true → (in_kind kind p q z).kind ≡ kind
+  turned_is : (z : Piece) → joins_points p q z.segment ≡ true → (in_kind kind p q z).kind ≡ kind
   turned_is z e = ap (λ b. (cond b (record z { kind = kind }) z).kind) e
 
-  stays_is : (z : Piece) → has_ends p q z.segment ≡ false → in_kind kind p q z ≡ z
+  stays_is : (z : Piece) → joins_points p q z.segment ≡ false → in_kind kind p q z ≡ z
   stays_is z e = ap (λ b. cond b (record z { kind = kind }) z) e
 
-  not_there : (z : Piece) → (HasEnds p q z.segment → ⊥) → has_ends p q z.segment ≡ false
-  not_there z none = false_from_ne_true (has_ends p q z.segment) (λ e. none (ends_parts p q z.segment e))
+  not_there : (z : Piece) → (JoinsPoints p q z.segment → ⊥) → joins_points p q z.segment ≡ false
+  not_there z none = false_from_ne_true (joins_points p q z.segment) (λ e. none (ends_parts p q z.segment e))
 
-  same_there : (z : Piece) → has_ends p q (in_kind kind p q z).segment ≡ has_ends p q z.segment
-  same_there z = ap (has_ends p q) (segment_stays kind p q z)
+  same_there : (z : Piece) → joins_points p q (in_kind kind p q z).segment ≡ joins_points p q z.segment
+  same_there z = ap (joins_points p q) (segment_stays kind p q z)
 
-  set_here : (ps : List Piece) (z : Piece) → Member (map (in_kind kind p q) ps) z → has_ends p q z.segment ≡ true → z.kind ≡ kind
+  set_here : (ps : List Piece) (z : Piece) → Member (map (in_kind kind p q) ps) z → joins_points p q z.segment ≡ true → z.kind ≡ kind
   set_here [] z m e = absurd m
-  set_here (x ∷ xs) z (inl at) e = ap (λ (t : Piece). t.kind) (sym at) ∙ turned_is x (sym (same_there x) ∙ ap (λ (t : Piece). has_ends p q t.segment) at ∙ e)
+  set_here (x ∷ xs) z (inl at) e = ap (λ (t : Piece). t.kind) (sym at) ∙ turned_is x (sym (same_there x) ∙ ap (λ (t : Piece). joins_points p q t.segment) at ∙ e)
   set_here (x ∷ xs) z (inr m) e = set_here xs z m e
 
-  others_to : (ps : List Piece) (z : Piece) → Member (map (in_kind kind p q) ps) z → has_ends p q z.segment ≡ false → Member ps z
+  others_to : (ps : List Piece) (z : Piece) → Member (map (in_kind kind p q) ps) z → joins_points p q z.segment ≡ false → Member ps z
   others_to [] z m e = absurd m
-  others_to (x ∷ xs) z (inl at) e = inl (sym (stays_is x (sym (same_there x) ∙ ap (λ (t : Piece). has_ends p q t.segment) at ∙ e)) ∙ at)
+  others_to (x ∷ xs) z (inl at) e = inl (sym (stays_is x (sym (same_there x) ∙ ap (λ (t : Piece). joins_points p q t.segment) at ∙ e)) ∙ at)
   others_to (x ∷ xs) z (inr m) e = inr (others_to xs z m e)
 
-  others_from : (ps : List Piece) (z : Piece) → Member ps z → has_ends p q z.segment ≡ false → Member (map (in_kind kind p q) ps) z
+  others_from : (ps : List Piece) (z : Piece) → Member ps z → joins_points p q z.segment ≡ false → Member (map (in_kind kind p q) ps) z
   others_from [] z m e = absurd m
-  others_from (x ∷ xs) z (inl at) e = inl (stays_is x (ap (λ (t : Piece). has_ends p q t.segment) at ∙ e) ∙ at)
+  others_from (x ∷ xs) z (inl at) e = inl (stays_is x (ap (λ (t : Piece). joins_points p q t.segment) at ∙ e) ∙ at)
   others_from (x ∷ xs) z (inr m) e = inr (others_from xs z m e)
 
   kind_set : (old : PatternView) → stands_between segment_at old.pieces p q ≡ true → IsKindSet old kind p q (with_kind old kind p q)

@@ -17,18 +17,18 @@ use Rattle.crease_store.specs.declared.faults.StoreRefusal.TheVariants.{NoSuchPi
 use Rattle.crease_store.specs.InOrder.{segment_at, line_at}
 
 -- p and q are its ends, in either order
-abbrev pub has_ends : Point → Point → Segment → Bool
-has_ends p q s =
+abbrev pub joins_points : Point → Point → Segment → Bool
+joins_points p q s =
     is_same_position (position_of (lesser_end s)) (position_of (lesser_of p q))
     && is_same_position (position_of (greater_end s)) (position_of (greater_of p q))
 
 -- one of these has p and q as its ends
 abbrev pub stands_between : {X : Type 0} → (X → Segment) → List X → Point → Point → Bool
-stands_between segment_at xs p q = list_any (λ x. has_ends p q (segment_at x)) xs
+stands_between segment_at xs p q = list_any (λ x. joins_points p q (segment_at x)) xs
 
 -- those that have other ends
 abbrev pub without : {X : Type 0} → (X → Segment) → List X → Point → Point → List X
-without segment_at xs p q = filter (λ x. not (has_ends p q (segment_at x))) xs
+without segment_at xs p q = filter (λ x. not (joins_points p q (segment_at x))) xs
 
 abbrev pub without_piece : PatternView → Point → Point → PatternView
 without_piece pattern p q = record pattern { pieces = without segment_at pattern.pieces p q }
@@ -44,7 +44,7 @@ delete_of pattern p q =
     else Err NoSuchPiece
 
 abbrev pub in_kind : Kind → Point → Point → Piece → Piece
-in_kind kind p q piece = if has_ends p q piece.segment then record piece { kind = kind } else piece
+in_kind kind p q piece = if joins_points p q piece.segment then record piece { kind = kind } else piece
 
 abbrev pub with_kind : PatternView → Kind → Point → Point → PatternView
 with_kind pattern kind p q = record pattern { pieces = map (in_kind kind p q) pattern.pieces }
@@ -61,14 +61,14 @@ clear_of pattern = empty_on pattern.corners
 -- ---- the same in words
 
 -- p and q are its ends
-abbrev pub HasEnds : Point → Point → Segment → Type 0
-HasEnds p q s = ((lesser_end s ≡ p) × (greater_end s ≡ q)) ⊎ ((lesser_end s ≡ q) × (greater_end s ≡ p))
+abbrev pub JoinsPoints : Point → Point → Segment → Type 0
+JoinsPoints p q s = ((lesser_end s ≡ p) × (greater_end s ≡ q)) ⊎ ((lesser_end s ≡ q) × (greater_end s ≡ p))
 
 abbrev pub HasPiece : PatternView → Point → Point → Type 0
-HasPiece pattern p q = (z : Piece) × Contains pattern.pieces z × HasEnds p q z.segment
+HasPiece pattern p q = (z : Piece) × Contains pattern.pieces z × JoinsPoints p q z.segment
 
 abbrev pub HasLine : PatternView → Point → Point → Type 0
-HasLine pattern p q = (s : Segment) × Contains pattern.aux s × HasEnds p q s
+HasLine pattern p q = (s : Segment) × Contains pattern.aux s × JoinsPoints p q s
 
 -- the piece between p and q is gone, and nothing else
 pub record IsPieceTaken (old : PatternView) (p q : Point) (new : PatternView) : Type 0 where
@@ -76,7 +76,7 @@ pub record IsPieceTaken (old : PatternView) (p q : Point) (new : PatternView) : 
   pub corners : new.corners ≡ old.corners
   pub aux : new.aux ≡ old.aux
   pub order : IsTrue (is_ascending (segments_of new.pieces))
-  pub pieces : (z : Piece) → Contains new.pieces z ↔ (Contains old.pieces z × (¬ HasEnds p q z.segment))
+  pub pieces : (z : Piece) → Contains new.pieces z ↔ (Contains old.pieces z × (¬ JoinsPoints p q z.segment))
 
 -- there is no piece between p and q; the auxiliary line between them is gone, and nothing else
 pub record IsLineTaken (old : PatternView) (p q : Point) (new : PatternView) : Type 0 where
@@ -85,7 +85,7 @@ pub record IsLineTaken (old : PatternView) (p q : Point) (new : PatternView) : T
   pub corners : new.corners ≡ old.corners
   pub pieces : new.pieces ≡ old.pieces
   pub order : IsTrue (is_ascending new.aux)
-  pub aux : (s : Segment) → Contains new.aux s ↔ (Contains old.aux s × (¬ HasEnds p q s))
+  pub aux : (s : Segment) → Contains new.aux s ↔ (Contains old.aux s × (¬ JoinsPoints p q s))
 
 abbrev pub IsDeleted : PatternView → Point → Point → PatternView → Type 0
 IsDeleted old p q new = IsPieceTaken old p q new ⊎ IsLineTaken old p q new
@@ -96,5 +96,5 @@ pub record IsKindSet (old : PatternView) (kind : Kind) (p q : Point) (new : Patt
   pub corners : new.corners ≡ old.corners
   pub aux : new.aux ≡ old.aux
   pub segments : segments_of new.pieces ≡ segments_of old.pieces
-  pub here : (z : Piece) → Contains new.pieces z → HasEnds p q z.segment → z.kind ≡ kind
-  pub others : (z : Piece) → (¬ HasEnds p q z.segment) → Contains new.pieces z ↔ Contains old.pieces z
+  pub here : (z : Piece) → Contains new.pieces z → JoinsPoints p q z.segment → z.kind ≡ kind
+  pub others : (z : Piece) → (¬ JoinsPoints p q z.segment) → Contains new.pieces z ↔ Contains old.pieces z

@@ -3,7 +3,7 @@
 ghost use Rattle.std.specs.Prelude.{◌≡◌, ◌↔◌, [], Ok, Err, IfOk, IsErrOf, IsTrue, map};
 ghost use Rattle.plane_geometry.specs.Ends.{lesser_of, greater_of};
 ghost use Rattle.crease_model.specs.Rules.{is_crease_kind};
-ghost use Rattle.crease_store.specs.Changed.{has_ends, stands_between, without, without_piece};
+ghost use Rattle.crease_store.specs.Changed.{joins_points, stands_between, without, without_piece};
 ghost use Rattle.crease_store.specs.Changed.{without_line, delete_of, in_kind, with_kind, set_of, clear_of};
 ghost use Rattle.crease_store.specs.Changed.{HasPiece, HasLine, IsDeleted, IsKindSet};
 ghost use Rattle.crease_store.specs.Answer.{IsAnswer, HasMemory};
@@ -27,8 +27,8 @@ fn greater<'a>(p: &'a Point, q: &'a Point) -> &'a Point
 }
 
 // Whether two points are the ends of a segment, in either order.
-fn has_ends(from: &Point, to: &Point, s: &Segment) -> bool
-    ensures { result ≡ has_ends from.now to.now s.now }
+fn joins_points(from: &Point, to: &Point, s: &Segment) -> bool
+    ensures { result ≡ joins_points from.now to.now s.now }
 {
     s.from().cmp(lesser(from, to)).is_eq() && s.to().cmp(greater(from, to)).is_eq()
 }
@@ -38,7 +38,7 @@ fn stands_between<T: OnSegment>(items: &[T], from: &Point, to: &Point) -> bool
     ensures { result ≡ stands_between T.segment_of items.now from.now to.now }
 {
     for item in items {
-        if has_ends(from, to, item.segment()) {
+        if joins_points(from, to, item.segment()) {
             return true;
         }
     }
@@ -56,7 +56,7 @@ fn without<T: OnSegment>(
 {
     let mut rest = Vec::with_capacity(alloc, items.len())?;
     for item in items {
-        if !has_ends(from, to, item.segment()) {
+        if !joins_points(from, to, item.segment()) {
             rest.push(*item)?;
         }
     }
@@ -67,7 +67,7 @@ fn without<T: OnSegment>(
 fn in_kind(piece: &Piece, kind: Kind, from: &Point, to: &Point) -> Piece
     ensures { result ≡ in_kind kind from.now to.now piece.now }
 {
-    if has_ends(from, to, &piece.segment) {
+    if joins_points(from, to, &piece.segment) {
         Piece {
             kind,
             segment: piece.segment,

@@ -5,7 +5,7 @@ use Rattle.std.proofs.lemmas.Bool.{cond_both, true≢false, and_parts, not-true,
 use Rattle.std.proofs.lemmas.List.{reverse-append}
 use Rattle.surd_number.specs.declared.Sgn.{Sgn}
 use Rattle.surd_number.specs.declared.Sgn.TheVariants.{Neg, Zero, Pos}
-use Rattle.surd_number.specs.SignLaws.{opposite_sign, times_sign}
+use Rattle.surd_number.specs.Number.{opposite_sign, times_sign}
 use Rattle.plane_geometry.specs.declared.Point.{Point}
 use Rattle.plane_geometry.specs.declared.Segment.{Segment}
 use Rattle.plane_geometry.specs.declared.Dir.{Dir}
@@ -28,7 +28,7 @@ use Rattle.face_builder.specs.declared.half_edges.HalfEdge.{HalfEdge}
 use Rattle.face_builder.specs.HalfEdge.{forward, backward, parts_from}
 pub use Rattle.face_builder.specs.HalfEdgeKinds.{Goes}
 use Rattle.face_builder.specs.Sorted.{others_after, each_once}
-use Rattle.face_builder.specs.Vertices.{is_between, point_between, ends_between, ascending_of, vertices_between, vertices_along}
+use Rattle.face_builder.specs.Vertices.{is_between_corners, point_between, ends_between, ascending_of, vertices_between, vertices_along}
 use Rattle.face_builder.proofs.Chains.{Chain, chain_close, chain_open, chain_as, chain_reverse, member_either, reverse_member, flat_member}
 use Rattle.face_builder.proofs.Ordered.{points_total}
 use Rattle.face_builder.proofs.Sorting.{Up, in_order_up, in_order_member}
@@ -141,14 +141,14 @@ once_member (x ∷ xs) z (inr m) = inr (others_member x xs z m)
 
 -- ---- vertices of a side
 
-point_between_is : (side : Side) (v z : Point) → Member (point_between side v) z → is_between side z ≡ true
+point_between_is : (side : Side) (v z : Point) → Member (point_between side v) z → is_between_corners side z ≡ true
 point_between_is side v z =
-    cond_both (is_between side v) (v ∷ []) [] (λ zs. Member zs z → is_between side z ≡ true)
-    (λ e m. elim m [ inl at ↦ ap (is_between side) (sym at) ∙ e | inr none ↦ absurd none ])
+    cond_both (is_between_corners side v) (v ∷ []) [] (λ zs. Member zs z → is_between_corners side z ≡ true)
+    (λ e m. elim m [ inl at ↦ ap (is_between_corners side) (sym at) ∙ e | inr none ↦ absurd none ])
     (λ e m. absurd m)
 
 pub between_is : (side : Side) (pieces : List Piece) (z : Point) → Member (vertices_between side pieces) z
-    → is_between side z ≡ true
+    → is_between_corners side z ≡ true
 between_is side pieces z m =
     let n = in_order_member compare_points points_total tied_points (flat_map (ends_between side) pieces) z
     (once_member _ z m) in
@@ -243,7 +243,7 @@ pub record IsInside (x : Segment) (side : Side) (v : Point) : Type 0 where
   not_end : is_same_point v side.end ≡ false
 
 pub inside_is : (x : Segment) (side : Side) (v : Point) → segment_of side.start side.end ≡ Some x
-    → is_between side v ≡ true → IsInside x side v
+    → is_between_corners side v ≡ true → IsInside x side v
 inside_is x side v at e =
     let a = and_parts (is_on_segment (position_of v) (segment_of side.start side.end))
     (not (is_same_point v side.start) && not (is_same_point v side.end)) e in

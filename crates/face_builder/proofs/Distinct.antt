@@ -16,7 +16,7 @@ use Rattle.crease_model.specs.View.{PatternView}
 use Rattle.line_split.specs.MemberLaws.{Member}
 use Rattle.face_builder.specs.declared.half_edges.HalfEdge.{HalfEdge}
 use Rattle.face_builder.specs.HalfEdge.{forward, backward, both_ways, parts_from, side_parts, border_parts, all_half_edges, compare_half_edges, half_edges_of}
-use Rattle.face_builder.specs.Sorted.{with_in_order, in_order}
+use Rattle.face_builder.specs.Sorted.{sorted_with, sorted_list}
 use Rattle.face_builder.specs.Vertices.{vertices_along}
 use Rattle.face_builder.proofs.AtBorder.{part_ends}
 use Rattle.face_builder.proofs.Border.{Goes, row_goes}
@@ -53,10 +53,10 @@ distinct_joined (x ∷ xs) ys d e apart = (
 )
 
 distinct_with : (x : HalfEdge) (ws : List HalfEdge) → Distinct (x ∷ ws)
-    → Distinct (with_in_order compare_half_edges x ws)
+    → Distinct (sorted_with compare_half_edges x ws)
 distinct_with x [] d = d
 distinct_with x (w ∷ ws) d =
-    cond_both (is_lt (compare_half_edges w x)) (w ∷ with_in_order compare_half_edges x ws)
+    cond_both (is_lt (compare_half_edges w x)) (w ∷ sorted_with compare_half_edges x ws)
     (x ∷ w ∷ ws) Distinct
     (λ e. (
       (λ m.
@@ -68,11 +68,11 @@ distinct_with x (w ∷ ws) d =
     ))
     (λ e. d)
 
-distinct_in_order : (xs : List HalfEdge) → Distinct xs → Distinct (in_order compare_half_edges xs)
-unfolding in_order
+distinct_in_order : (xs : List HalfEdge) → Distinct xs → Distinct (sorted_list compare_half_edges xs)
+unfolding sorted_list
 distinct_in_order [] d = tt
 distinct_in_order (x ∷ xs) d =
-    distinct_with x (in_order compare_half_edges xs) (
+    distinct_with x (sorted_list compare_half_edges xs) (
       (λ m. d.0 (in_order_member compare_half_edges half_edges_total tied_half_edges xs x m)),
       distinct_in_order xs d.1,
     )

@@ -24,7 +24,7 @@ use Rattle.face_builder.specs.HalfEdge.{forward, backward, both_ways, parts_from
 use Rattle.face_builder.specs.HalfEdgeKinds.{IsOfPiece, IsVertexOn, IsOfBorder, IsHalfEdge}
 use Rattle.plane_geometry.specs.Ends.{GoesAlong}
 use Rattle.face_builder.specs.Sorted.{others_after, each_once}
-use Rattle.face_builder.specs.Vertices.{is_between, point_between, ends_between, vertices_between, vertices_along}
+use Rattle.face_builder.specs.Vertices.{is_between_corners, point_between, ends_between, vertices_between, vertices_along}
 use Rattle.face_builder.proofs.AtBorder.{IsBorder, part_ends}
 use Rattle.face_builder.proofs.Border.{Runs, row_of, row_goes, once_member, between_is, forward_runs, backward_runs}
 use Rattle.face_builder.proofs.Chains.{Chain, member_either, member_left, member_right, reverse_member, flat_member, member_flat}
@@ -55,18 +55,18 @@ once_has : (xs : List Point) (z : Point) → Member xs z → Member (each_once i
 once_has [] z m = m
 once_has (x ∷ xs) z m = others_has x xs z m
 
-point_has : (side : Side) (v z : Point) → z ≡ v → is_between side z ≡ true → Member (point_between side v) z
+point_has : (side : Side) (v z : Point) → z ≡ v → is_between_corners side z ≡ true → Member (point_between side v) z
 point_has side v z at e =
-    cond_both (is_between side v) (v ∷ []) [] (λ zs. Member zs z) (λ yes. inl (sym at))
-    (λ no. absurd (not_both (is_between side v) no (ap (is_between side) (sym at) ∙ e)))
+    cond_both (is_between_corners side v) (v ∷ []) [] (λ zs. Member zs z) (λ yes. inl (sym at))
+    (λ no. absurd (not_both (is_between_corners side v) no (ap (is_between_corners side) (sym at) ∙ e)))
 
 point_at : (side : Side) (v z : Point) → Member (point_between side v) z → z ≡ v
 point_at side v z =
-    cond_both (is_between side v) (v ∷ []) [] (λ zs. Member zs z → z ≡ v)
+    cond_both (is_between_corners side v) (v ∷ []) [] (λ zs. Member zs z → z ≡ v)
     (λ yes m. elim m [ inl at ↦ sym at | inr none ↦ absurd none ]) (λ no m. absurd m)
 
 between_has : (side : Side) (pieces : List Piece) (q : Piece) (z : Point) → Member pieces q → IsEndOf q z
-    → is_between side z ≡ true → Member (vertices_between side pieces) z
+    → is_between_corners side z ≡ true → Member (vertices_between side pieces) z
 between_has side pieces q z m end e =
     let low = point_between side (lesser_end q.segment) in
     let high = point_between side (greater_end q.segment) in

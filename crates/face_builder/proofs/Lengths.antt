@@ -18,22 +18,22 @@ use Rattle.face_builder.specs.HalfEdge.{compare_half_edges, both_ways, parts_fro
 use Rattle.plane_geometry.specs.DirView.{dir_of}
 use Rattle.face_builder.specs.Cycle.{is_leader, leaders_from}
 use Rattle.face_builder.specs.Faces.{led_face, led_faces}
-use Rattle.face_builder.specs.Sorted.{with_in_order, in_order, others_after, each_once}
-use Rattle.face_builder.specs.Vertices.{is_between, point_between, ends_between, vertices_between, vertices_along}
+use Rattle.face_builder.specs.Sorted.{sorted_with, sorted_list, others_after, each_once}
+use Rattle.face_builder.specs.Vertices.{is_between_corners, point_between, ends_between, vertices_between, vertices_along}
 use Rattle.plane_geometry.specs.Position.{compare_points, is_same_point}
 
 module _ {X : Type 0} (compare : X → X → Ordering) where
-  length_with : (x : X) (xs : List X) → length (with_in_order compare x xs) ≡ length xs + 1
+  length_with : (x : X) (xs : List X) → length (sorted_with compare x xs) ≡ length xs + 1
   length_with x [] = refl
   length_with x (y ∷ ys) =
-      cond_both (is_lt (compare y x)) (y ∷ with_in_order compare x ys) (x ∷ y ∷ ys) (λ zs. length zs
+      cond_both (is_lt (compare y x)) (y ∷ sorted_with compare x ys) (x ∷ y ∷ ys) (λ zs. length zs
       ≡ length (y ∷ ys) + 1)
       (λ e. omega (arith, length_with x ys)) (λ e. omega arith)
 
-  pub length_in_order : (xs : List X) → length (in_order compare xs) ≡ length xs
-  unfolding in_order
+  pub length_in_order : (xs : List X) → length (sorted_list compare xs) ≡ length xs
+  unfolding sorted_list
   length_in_order [] = refl
-  length_in_order (x ∷ xs) = omega (arith, length_with x (in_order compare xs), length_in_order xs)
+  length_in_order (x ∷ xs) = omega (arith, length_with x (sorted_list compare xs), length_in_order xs)
 
 module _ {X : Type 0} (is_same : X → X → Bool) where
   length_others : (x : X) (xs : List X) → length (others_after is_same x xs) ≤ length xs
@@ -49,7 +49,7 @@ module _ {X : Type 0} (is_same : X → X → Bool) where
 
 length_point : (side : Side) (v : Point) → length (point_between side v) ≤ 1
 length_point side v =
-    cond_both (is_between side v) (v ∷ []) [] (λ zs. length zs ≤ 1) (λ e. omega arith) (λ e. omega arith)
+    cond_both (is_between_corners side v) (v ∷ []) [] (λ zs. length zs ≤ 1) (λ e. omega arith) (λ e. omega arith)
 
 length_ends : (side : Side) (pieces : List Piece) → length (flat_map (ends_between side) pieces)
     ≤ 2 * length pieces
@@ -69,7 +69,7 @@ length_between : (side : Side) (pieces : List Piece) → length (vertices_betwee
 length_between side pieces =
     omega (
       arith,
-      length_once is_same_point (in_order compare_points (flat_map (ends_between side) pieces)),
+      length_once is_same_point (sorted_list compare_points (flat_map (ends_between side) pieces)),
       length_in_order compare_points (flat_map (ends_between side) pieces),
       length_ends side pieces,
     )

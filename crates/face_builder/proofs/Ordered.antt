@@ -16,7 +16,7 @@ use Rattle.plane_geometry.specs.Position.{Position, position_of, compare_points}
 use Rattle.plane_geometry.specs.OrderLaws.{tied_points}
 use Rattle.face_builder.specs.declared.half_edges.HalfEdge.{HalfEdge}
 use Rattle.face_builder.specs.HalfEdge.{compare_half_edges}
-use Rattle.face_builder.specs.Sorted.{in_order}
+use Rattle.face_builder.specs.Sorted.{sorted_list}
 use Rattle.face_builder.proofs.Sorting.{sorted_is}
 
 then_equal : (a b : Ordering) → ordering_then a b ≡ Equal → (a ≡ Equal) × (b ≡ Equal)
@@ -62,10 +62,10 @@ tied_half_edges g h e =
     (tied_points g.end h.end c.0) (tied_pieces g.piece h.piece c.1)
 
 pub sorted_points : (ps qs : List Point) → IsPermutation ps qs → IsSorted compare_points qs → qs
-    ≡ in_order compare_points ps
+    ≡ sorted_list compare_points ps
 sorted_points ps qs moved sorted = sorted_is compare_points points_total tied_points ps qs moved sorted
 
 pub sorted_half_edges : (gs hs : List HalfEdge) → IsPermutation gs hs → IsSorted compare_half_edges hs → hs
-    ≡ in_order compare_half_edges gs
+    ≡ sorted_list compare_half_edges gs
 sorted_half_edges gs hs moved sorted =
     sorted_is compare_half_edges half_edges_total tied_half_edges gs hs moved sorted

@@ -14,7 +14,7 @@ use Rattle.crease_model.specs.View.{PatternView}
 use Rattle.line_split.specs.MemberLaws.{Member}
 use Rattle.face_builder.specs.declared.half_edges.HalfEdge.{HalfEdge}
 use Rattle.face_builder.specs.Faces.{corners_of, turns_off, is_reflex, directions_round, is_twisted, first_of, bad_half_edge, convex_refusal, faces_among}
-use Rattle.face_builder.specs.Faces.{Refusal, not_convex, too_many, count_refusal}
+use Rattle.face_builder.specs.Faces.{FaceRefusal, not_convex, too_many, count_refusal}
 use Rattle.face_builder.specs.HalfEdge.{half_edges_of}
 use Rattle.face_builder.proofs.Apart.{IsBack, apart}
 use Rattle.face_builder.proofs.Border.{Runs, direction_along}
@@ -208,7 +208,7 @@ pub all_convex : (p : PatternView) → is_sheet p.corners ≡ true → convex_re
 all_convex p sheet none =
     faces_convex p (sheet_turns p.corners sheet).0 none (faces_among (half_edges_of p)) (λ f m. m)
 
-pub few_by : (n : ℕ) (later : Option Refusal) → option_or (count_refusal n) later ≡ None → n ≤ 256
+pub few_by : (n : ℕ) (later : Option FaceRefusal) → option_or (count_refusal n) later ≡ None → n ≤ 256
 few_by n later e =
     cond_both (nat_lt 256 n) (Some (too_many n)) None (λ o. option_or o later ≡ None → n ≤ 256) (λ more f. cc)
     (λ less f. ltb-false 256 n less) e

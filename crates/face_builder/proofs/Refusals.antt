@@ -10,7 +10,7 @@ use Rattle.crease_model.specs.View.{PatternView}
 use Rattle.face_builder.specs.declared.half_edges.HalfEdge.{HalfEdge}
 use Rattle.face_builder.specs.declared.faults.FaceFault.{FaceFault}
 use Rattle.face_builder.specs.declared.faults.FaceFault.TheVariants as fault
-use Rattle.face_builder.specs.Faces.{Refusal, not_convex, too_many, unreached, bad_half_edge, faces_among, count_refusal, walk_among, face_refusal, IsNotConvexAt, AreTooMany, IsUnreached, HasMemory, IsFaceMap, IsFaceFault}
+use Rattle.face_builder.specs.Faces.{FaceRefusal, not_convex, too_many, unreached, bad_half_edge, faces_among, count_refusal, walk_among, face_refusal, IsNotConvexAt, AreTooMany, IsUnreached, HasMemory, IsFaceMap, IsFaceFault}
 use Rattle.face_builder.specs.HalfEdge.{half_edges_of}
 use Rattle.face_builder.specs.View.{FaceMapView}
 use Rattle.face_builder.specs.Walk.{first_unreached}
@@ -24,31 +24,31 @@ ok_not_err : {F : Type 0} (m : FaceMapView) (y : FaceFault)
     → ◌≡◌ {A = Result FaceMapView FaceFault} (Ok m) (Err y) → F
 ok_not_err m y e = absurd (cc)
 
-some_is : (x y : Refusal) → Some x ≡ Some y → x ≡ y
+some_is : (x y : FaceRefusal) → Some x ≡ Some y → x ≡ y
 some_is x y e = cc
 
-none_is_some : {F : Type 0} (x : Refusal) → None ≡ Some x → F
+none_is_some : {F : Type 0} (x : FaceRefusal) → None ≡ Some x → F
 none_is_some x e = absurd (cc)
 
 -- the fault that tells a refusal
-abbrev fault_of : Refusal → FaceFault
+abbrev fault_of : FaceRefusal → FaceFault
 fault_of (not_convex at direction) = fault.NotConvex at direction
 fault_of (too_many n) = fault.TooManyFaces n
 fault_of (unreached f) = fault.Unreached f
 
-refusal_of : FaceFault → Option Refusal
+refusal_of : FaceFault → Option FaceRefusal
 refusal_of (fault.NotConvex at direction) = Some (not_convex at direction)
 refusal_of (fault.TooManyFaces n) = Some (too_many n)
 refusal_of (fault.Unreached f) = Some (unreached f)
 refusal_of fault.Memory = None
 
-tells : (r : Refusal) → refusal_of (fault_of r) ≡ Some r
+tells : (r : FaceRefusal) → refusal_of (fault_of r) ≡ Some r
 unfolding refusal_of
 tells (not_convex at direction) = refl
 tells (too_many n) = refl
 tells (unreached f) = refl
 
-told : (e : FaceFault) (o : Option Refusal) (r : Refusal) → IsFaceFault e o → refusal_of e ≡ Some r → o
+told : (e : FaceFault) (o : Option FaceRefusal) (r : FaceRefusal) → IsFaceFault e o → refusal_of e ≡ Some r → o
     ≡ Some r
 unfolding refusal_of
 told (fault.NotConvex at direction) o r is e = is ∙ e
@@ -56,19 +56,19 @@ told (fault.TooManyFaces n) o r is e = is ∙ e
 told (fault.Unreached f) o r is e = is ∙ e
 told fault.Memory o r is e = none_is_some r e
 
-telling : (e : FaceFault) (o : Option Refusal) (r : Refusal) → IsFaceFault e o → o ≡ Some r
+telling : (e : FaceFault) (o : Option FaceRefusal) (r : FaceRefusal) → IsFaceFault e o → o ≡ Some r
     → (e ≡ fault.Memory → ⊥) → e ≡ fault_of r
 telling (fault.NotConvex a d) o r is at memory = ap fault_of (some_is (not_convex a d) r (sym is ∙ at))
 telling (fault.TooManyFaces n) o r is at memory = ap fault_of (some_is (too_many n) r (sym is ∙ at))
 telling (fault.Unreached f) o r is at memory = ap fault_of (some_is (unreached f) r (sym is ∙ at))
 telling fault.Memory o r is at memory = absurd (memory refl)
 
-memory_tells : {e : FaceFault} {r : Refusal} → e ≡ fault.Memory → refusal_of e ≡ Some r → None ≡ Some r
+memory_tells : {e : FaceFault} {r : FaceRefusal} → e ≡ fault.Memory → refusal_of e ≡ Some r → None ≡ Some r
 unfolding refusal_of
 memory_tells same is = sym (ap refusal_of same) ∙ is
 
 -- a result tells a refusal exactly where the pattern has it and memory did not run out
-refused_as : (p : PatternView) (result : Result FaceMapView FaceFault) (r : Refusal) (Cause : Type 0)
+refused_as : (p : PatternView) (result : Result FaceMapView FaceFault) (r : FaceRefusal) (Cause : Type 0)
     → MatchResult result (λ m. IsFaceMap m p) (λ e. IsFaceFault e (face_refusal p))
     → (face_refusal p ≡ Some r) ↔ Cause
     → IsErrOf result (fault_of r) ↔ (HasMemory result × Cause)
@@ -90,7 +90,7 @@ refused_as p (Err e) r Cause exact cause = (to, from)
 
 -- ---- from the refusal to its cause
 
-abbrev Value : Option HalfEdge → ℕ → Option ℕ → Option Refusal
+abbrev Value : Option HalfEdge → ℕ → Option ℕ → Option FaceRefusal
 Value o n u =
     option_or (option_map (λ h. not_convex h.start h.dir) o)
     (option_or (count_refusal n) (option_map unreached u))
@@ -105,12 +105,12 @@ UnreachedPart : Option HalfEdge → ℕ → Option ℕ → ℕ → Type 0
 UnreachedPart o n u f = (o ≡ None) × (n ≤ 256) × (u ≡ Some f)
 
 -- what each refusal of the three says of the parts
-Said : Option HalfEdge → ℕ → Option ℕ → Refusal → Type 0
+Said : Option HalfEdge → ℕ → Option ℕ → FaceRefusal → Type 0
 Said o n u (not_convex a d) = NotConvexPart o a d
 Said o n u (too_many m) = TooManyPart o n m
 Said o n u (unreached f) = UnreachedPart o n u f
 
-said : (o : Option HalfEdge) (n : ℕ) (u : Option ℕ) (r : Refusal) → Value o n u ≡ Some r → Said o n u r
+said : (o : Option HalfEdge) (n : ℕ) (u : Option ℕ) (r : FaceRefusal) → Value o n u ≡ Some r → Said o n u r
 unfolding Said NotConvexPart TooManyPart UnreachedPart
 said (Some h) n u r e =
     subst (λ x. Said (Some h) n u x) (some_is (not_convex h.start h.dir) r e) (h, refl, refl, refl)
@@ -126,7 +126,7 @@ said None n u r e = by (nat_lt 256 n) refl e
     by true at f = subst (λ x. Said None n u x) (some_is (too_many n) r f) (refl, refl, ltb-true 256 n at)
     by false at f = rest u f at
 
-saying : (o : Option HalfEdge) (n : ℕ) (u : Option ℕ) (r : Refusal) → Said o n u r → Value o n u ≡ Some r
+saying : (o : Option HalfEdge) (n : ℕ) (u : Option ℕ) (r : FaceRefusal) → Said o n u r → Value o n u ≡ Some r
 unfolding Said NotConvexPart TooManyPart UnreachedPart
 saying o n u (not_convex a d) w =
     ap (λ x. Value x n u) w.1 ∙ ap (λ (x : Point). Some (not_convex x w.0.dir)) w.2
@@ -154,7 +154,7 @@ module _ (p : PatternView) (result : Result FaceMapView FaceFault)
   abbrev late : Option ℕ
   late = first_unreached (walk_among faces p.pieces) 1 (length faces)
 
-  cause : (r : Refusal) → (face_refusal p ≡ Some r) ↔ Said bad (length faces) late r
+  cause : (r : FaceRefusal) → (face_refusal p ≡ Some r) ↔ Said bad (length faces) late r
   unfolding face_refusal
   cause r = (said bad (length faces) late r, saying bad (length faces) late r)
 

@@ -14,7 +14,7 @@ use Rattle.face_builder.specs.declared.half_edges.HalfEdge.{HalfEdge}
 use Rattle.face_builder.specs.Faces.{faces_among, face_map_of}
 use Rattle.face_builder.specs.Fan.{interior_angle}
 use Rattle.face_builder.specs.HalfEdge.{half_edges_of}
-use Rattle.face_builder.specs.Round.{IsNext, IsClosed, IsRoundOf, IsInOneFace, ArePartition, AreRoundsOf}
+use Rattle.face_builder.specs.Round.{IsNext, IsClosedWalk, IsRoundOf, IsInOneFace, ArePartition, AreRoundsOf}
 use Rattle.face_builder.proofs.Arrivals.{arrive_once}
 use Rattle.face_builder.proofs.Cover.{covered, place_once}
 use Rattle.face_builder.proofs.Departures.{kind_of, depart_once}
@@ -72,7 +72,7 @@ module _ (p : PatternView) (sheet : is_sheet p.corners ≡ true) (rules : IsPatt
       (next_goes g e m x) (next_goes h e n y)
 
   closed_is : (first h : HalfEdge) (rest : List HalfEdge) → Follows hs goes first h rest
-      → IsClosed hs first h rest
+      → IsClosedWalk hs first h rest
   closed_is first h [] f = goes_is_next hs h first f
   closed_is first h (g ∷ gs) f = (goes_is_next hs h g f.0, closed_is first g gs f.1)
 

@@ -11,7 +11,7 @@ use Rattle.plane_geometry.specs.SideLaws.{order_turned}
 use Rattle.plane_geometry.specs.StretchLaws.{before_is, ends_order}
 use Rattle.plane_geometry.specs.SegmentView.{lesser_end, greater_end, stretch_of}
 use Rattle.plane_geometry.specs.Polygon.{sides_of, has_direction}
-use Rattle.surd_number.specs.SignLaws.{opposite_sign}
+use Rattle.surd_number.specs.Number.{opposite_sign}
 use Rattle.crease_model.specs.declared.Piece.{Piece}
 use Rattle.crease_model.specs.Rules.{IsPattern}
 use Rattle.crease_model.specs.Sheet.{is_sheet}
@@ -22,7 +22,7 @@ use Rattle.face_builder.specs.declared.half_edges.HalfEdge.{HalfEdge}
 use Rattle.face_builder.specs.HalfEdge.{forward, backward, both_ways, border_parts, half_edges_of}
 use Rattle.face_builder.specs.Faces.{corners_of, convex_refusal, faces_among}
 use Rattle.face_builder.specs.MapRules.{IsSideOf, IsShared}
-use Rattle.face_builder.specs.Shared.{is_of_piece, is_rising, is_forward, is_backward, face_with_from, left_face, right_face, shared_piece, shared_from}
+use Rattle.face_builder.specs.Shared.{is_of_piece, is_upward, is_forward, is_backward, face_with_from, left_face, right_face, shared_piece, shared_from}
 use Rattle.face_builder.specs.View.{corners_at}
 use Rattle.face_builder.proofs.Apart.{IsBack}
 use Rattle.face_builder.proofs.Chains.{member_left}
@@ -106,10 +106,10 @@ numbered_once k (x ∷ xs) j q r (inl e) (inr n) = absurd (omega (arith, e.0, nu
 numbered_once k (x ∷ xs) j q r (inr m) (inl f) = absurd (omega (arith, f.0, numbered_from (k + 1) xs j q m))
 numbered_once k (x ∷ xs) j q r (inr m) (inr n) = numbered_once (k + 1) xs j q r m n
 
-forward_rises : (k : ℕ) (q : Piece) → is_rising (forward k q) ≡ true
+forward_rises : (k : ℕ) (q : Piece) → is_upward (forward k q) ≡ true
 forward_rises k q = q.segment.stretch.0
 
-backward_falls : (k : ℕ) (q : Piece) → is_rising (backward k q) ≡ false
+backward_falls : (k : ℕ) (q : Piece) → is_upward (backward k q) ≡ false
 backward_falls k q =
     let s = stretch_of q.segment in
     before_is s.to s.from
@@ -156,20 +156,20 @@ module _ (p : PatternView) (sheet : is_sheet p.corners ≡ true) (rules : IsPatt
   forward_is : (k : ℕ) (q : Piece) (g : HalfEdge) → IsNumbered 1 p.pieces k q → Member hs g → is_forward k g
       ≡ true → g ≡ forward k q
   forward_is k q g n m e =
-      let parts = and_parts (is_of_piece k g) (is_rising g) e in
+      let parts = and_parts (is_of_piece k g) (is_upward g) e in
       elim (piece_is k q g n m parts.0) [
         | inl at ↦ at
         | inr at ↦ absurd
-            (not_both (is_rising (backward k q)) (backward_falls k q) (sym (ap is_rising at) ∙ parts.1))
+            (not_both (is_upward (backward k q)) (backward_falls k q) (sym (ap is_upward at) ∙ parts.1))
       ]
 
   backward_is : (k : ℕ) (q : Piece) (g : HalfEdge) → IsNumbered 1 p.pieces k q → Member hs g → is_backward k g
       ≡ true → g ≡ backward k q
   backward_is k q g n m e =
-      let parts = and_parts (is_of_piece k g) (not (is_rising g)) e in
+      let parts = and_parts (is_of_piece k g) (not (is_upward g)) e in
       elim (piece_is k q g n m parts.0) [
         | inl at ↦ absurd
-            (not_both (is_rising (forward k q)) (sym (ap is_rising at) ∙ not-true _ parts.1)
+            (not_both (is_upward (forward k q)) (sym (ap is_upward at) ∙ not-true _ parts.1)
             (forward_rises k q))
         | inr at ↦ at
       ]
@@ -225,7 +225,7 @@ module _ (p : PatternView) (sheet : is_sheet p.corners ≡ true) (rules : IsPatt
     right_is k q n =
         let way = (ways_in k q n).1 in
         let home = covered p sheet rules (backward k q) way in
-        let falls : not (is_rising (backward k q)) ≡ true = ap not (backward_falls k q) in
+        let falls : not (is_upward (backward k q)) ≡ true = ap not (backward_falls k q) in
         let r = first_with 1 (is_backward k) faces home.0 (backward k q) home.1 home.2
         (and_from _ _ (eq-eqb k k refl) falls) in
         let in_hs =

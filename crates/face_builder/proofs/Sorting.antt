@@ -12,7 +12,7 @@ use Rattle.std.proofs.lemmas.Cmp.{tied_itself}
 use Rattle.std.proofs.lemmas.List.Sorted.{ranks_by, sum_by-IsPermutation}
 use Rattle.std.proofs.lemmas.List.Sums.{sum_by-cons}
 use Rattle.line_split.specs.MemberLaws.{Member}
-use Rattle.face_builder.specs.Sorted.{with_in_order, in_order}
+use Rattle.face_builder.specs.Sorted.{sorted_with, sorted_list}
 
 both_not_less : (o r : Ordering) → o ≡ ordering_reverse r → is_lt o ≡ false → is_lt r ≡ false → o ≡ Equal
 both_not_less Less r e f g = absurd (false≢true (sym f))
@@ -135,55 +135,55 @@ module _ {X : Type 0} (compare : X → X → Ordering) (total : IsTotalOrder com
   first_not_below y (w ∷ ws) u = u.0
 
   with_not_below : (y x : X) (ws : List X) → NotBelow y ws → is_lt (compare x y) ≡ false
-      → NotBelow y (with_in_order compare x ws)
+      → NotBelow y (sorted_with compare x ws)
   unfolding NotBelow
   with_not_below y x [] b h = h
   with_not_below y x (w ∷ ws) b h =
-      cond_both (is_lt (compare w x)) (w ∷ with_in_order compare x ws) (x ∷ w ∷ ws) (NotBelow y) (λ e. b)
+      cond_both (is_lt (compare w x)) (w ∷ sorted_with compare x ws) (x ∷ w ∷ ws) (NotBelow y) (λ e. b)
       (λ e. h)
 
-  with_up : (x : X) (ws : List X) → Up ws → Up (with_in_order compare x ws)
+  with_up : (x : X) (ws : List X) → Up ws → Up (sorted_with compare x ws)
   unfolding NotBelow
   with_up x [] u = tt
   with_up x (w ∷ ws) u =
-      cond_both (is_lt (compare w x)) (w ∷ with_in_order compare x ws) (x ∷ w ∷ ws) Up
-      (λ e. up_first w (with_in_order compare x ws)
+      cond_both (is_lt (compare w x)) (w ∷ sorted_with compare x ws) (x ∷ w ∷ ws) Up
+      (λ e. up_first w (sorted_with compare x ws)
       (with_not_below w x ws (first_not_below w ws u)
       (less_reversed (compare w x) (compare x w) (total.antisymm w x) e)) (with_up x ws (up_rest w ws u)))
       (λ e. (e, u))
 
-  count_with : (z x : X) (xs : List X) → count z (with_in_order compare x xs) ≡ count z (x ∷ xs)
+  count_with : (z x : X) (xs : List X) → count z (sorted_with compare x xs) ≡ count z (x ∷ xs)
   unfolding count
   count_with z x [] = refl
   count_with z x (y ∷ ys) =
       let rest = count_with z x ys in
-      cond_both (is_lt (compare y x)) (y ∷ with_in_order compare x ys) (x ∷ y ∷ ys) (λ ws. count z ws
+      cond_both (is_lt (compare y x)) (y ∷ sorted_with compare x ys) (x ∷ y ∷ ys) (λ ws. count z ws
       ≡ count z (x ∷ y ∷ ys))
       (λ e. omega (arith, rest)) (λ e. refl)
 
-  pub in_order_up : (xs : List X) → Up (in_order compare xs)
-  unfolding in_order
+  pub in_order_up : (xs : List X) → Up (sorted_list compare xs)
+  unfolding sorted_list
   in_order_up [] = tt
-  in_order_up (x ∷ xs) = with_up x (in_order compare xs) (in_order_up xs)
+  in_order_up (x ∷ xs) = with_up x (sorted_list compare xs) (in_order_up xs)
 
-  count_in_order : (z : X) (xs : List X) → count z (in_order compare xs) ≡ count z xs
-  unfolding count in_order
+  count_in_order : (z : X) (xs : List X) → count z (sorted_list compare xs) ≡ count z xs
+  unfolding count sorted_list
   count_in_order z [] = refl
-  count_in_order z (x ∷ xs) = count_with z x (in_order compare xs)
+  count_in_order z (x ∷ xs) = count_with z x (sorted_list compare xs)
       ∙ ap (λ n. one_if (is_eq (compare z x)) + n) (count_in_order z xs)
 
   -- what a sort gives
-  pub sorted_is : (xs ys : List X) → IsPermutation xs ys → IsSorted compare ys → ys ≡ in_order compare xs
+  pub sorted_is : (xs ys : List X) → IsPermutation xs ys → IsSorted compare ys → ys ≡ sorted_list compare xs
   sorted_is xs ys moved sorted =
-      one_up ys (in_order compare xs) (up_from_sorted ys sorted) (in_order_up xs)
+      one_up ys (sorted_list compare xs) (up_from_sorted ys sorted) (in_order_up xs)
       (λ z. same_counts xs ys moved z ∙ sym (count_in_order z xs))
 
   -- ---- what is in it
 
-  pub with_member : (x : X) (ws : List X) (z : X) → Member (with_in_order compare x ws) z → Member (x ∷ ws) z
+  pub with_member : (x : X) (ws : List X) (z : X) → Member (sorted_with compare x ws) z → Member (x ∷ ws) z
   with_member x [] z = λ m. m
   with_member x (w ∷ ws) z =
-      cond_both (is_lt (compare w x)) (w ∷ with_in_order compare x ws) (x ∷ w ∷ ws) (λ zs. Member zs z
+      cond_both (is_lt (compare w x)) (w ∷ sorted_with compare x ws) (x ∷ w ∷ ws) (λ zs. Member zs z
       → Member (x ∷ w ∷ ws) z)
       (λ e m.
       elim m [
@@ -192,10 +192,10 @@ module _ {X : Type 0} (compare : X → X → Ordering) (total : IsTotalOrder com
       ])
       (λ e m. m)
 
-  member_with : (x : X) (ws : List X) (z : X) → Member (x ∷ ws) z → Member (with_in_order compare x ws) z
+  member_with : (x : X) (ws : List X) (z : X) → Member (x ∷ ws) z → Member (sorted_with compare x ws) z
   member_with x [] z m = m
   member_with x (w ∷ ws) z m =
-      cond_both (is_lt (compare w x)) (w ∷ with_in_order compare x ws) (x ∷ w ∷ ws) (λ zs. Member zs z)
+      cond_both (is_lt (compare w x)) (w ∷ sorted_with compare x ws) (x ∷ w ∷ ws) (λ zs. Member zs z)
       (λ e.
       elim m [
         | inl at ↦ inr (member_with x ws z (inl at))
@@ -203,16 +203,16 @@ module _ {X : Type 0} (compare : X → X → Ordering) (total : IsTotalOrder com
       ])
       (λ e. m)
 
-  pub in_order_member : (xs : List X) (z : X) → Member (in_order compare xs) z → Member xs z
-  unfolding in_order
+  pub in_order_member : (xs : List X) (z : X) → Member (sorted_list compare xs) z → Member xs z
+  unfolding sorted_list
   in_order_member [] z m = m
   in_order_member (x ∷ xs) z m =
-      elim (with_member x (in_order compare xs) z m)
+      elim (with_member x (sorted_list compare xs) z m)
       [ inl at ↦ inl at | inr n ↦ inr (in_order_member xs z n) ]
 
-  pub member_in_order : (xs : List X) (z : X) → Member xs z → Member (in_order compare xs) z
-  unfolding in_order
+  pub member_in_order : (xs : List X) (z : X) → Member xs z → Member (sorted_list compare xs) z
+  unfolding sorted_list
   member_in_order [] z m = m
   member_in_order (x ∷ xs) z m =
-      member_with x (in_order compare xs) z
+      member_with x (sorted_list compare xs) z
       (elim m [ inl at ↦ inl at | inr n ↦ inr (member_in_order xs z n) ])

@@ -48,10 +48,10 @@ corners_of face = map (λ h. h.start) face
 
 -- ---- why there are none
 
-pub data Refusal : Type 0 where
-  not_convex : Point → Dir → Refusal
-  too_many : ℕ → Refusal
-  unreached : ℕ → Refusal
+pub data FaceRefusal : Type 0 where
+  not_convex : Point → Dir → FaceRefusal
+  too_many : ℕ → FaceRefusal
+  unreached : ℕ → FaceRefusal
 
 -- between the directions of two half-edges the turn is not 0 to 7 steps to the left
 abbrev pub turns_off : HalfEdge → HalfEdge → Bool
@@ -80,17 +80,17 @@ first_of (Some (h ∷ hs)) = Some h
 abbrev pub bad_half_edge : List HalfEdge → Option HalfEdge
 bad_half_edge hs = option_or (find (is_reflex hs) hs) (first_of (find is_twisted (faces_among hs)))
 
-abbrev pub convex_refusal : List HalfEdge → Option Refusal
+abbrev pub convex_refusal : List HalfEdge → Option FaceRefusal
 convex_refusal hs = option_map (λ h. not_convex h.start h.dir) (bad_half_edge hs)
 
 -- a pattern has at most so many faces
 abbrev pub most_faces : ℕ
 most_faces = 256
 
-abbrev pub count_refusal : ℕ → Option Refusal
+abbrev pub count_refusal : ℕ → Option FaceRefusal
 count_refusal count = if nat_lt most_faces count then Some (too_many count) else None
 
-abbrev pub reach_refusal : List Step → ℕ → Option Refusal
+abbrev pub reach_refusal : List Step → ℕ → Option FaceRefusal
 reach_refusal walk count = option_map unreached (first_unreached walk 1 count)
 
 -- ---- the faces of a pattern
@@ -107,7 +107,7 @@ map_among faces pieces =
     }
 
 -- there are too many, or one is not reached
-abbrev pub size_refusal : List (List HalfEdge) → List Piece → Option Refusal
+abbrev pub size_refusal : List (List HalfEdge) → List Piece → Option FaceRefusal
 size_refusal faces pieces =
     option_or (count_refusal (length faces)) (reach_refusal (walk_among faces pieces) (length faces))
 
@@ -115,7 +115,7 @@ unfoldable pub face_map_of : PatternView → FaceMapView
 face_map_of p = map_among (faces_among (half_edges_of p)) p.pieces
 
 -- the first refusal, in this order
-unfoldable pub face_refusal : PatternView → Option Refusal
+unfoldable pub face_refusal : PatternView → Option FaceRefusal
 face_refusal p =
     option_or (convex_refusal (half_edges_of p)) (size_refusal (faces_among (half_edges_of p)) p.pieces)
 
@@ -152,7 +152,7 @@ abbrev pub IsFaceMap : FaceMapView → PatternView → Type 0
 IsFaceMap m p = (face_refusal p ≡ None) × (m ≡ face_map_of p)
 
 -- a fault is the refusal, or want of memory
-abbrev pub IsFaceFault : FaceFault → Option Refusal → Type 0
+abbrev pub IsFaceFault : FaceFault → Option FaceRefusal → Type 0
 IsFaceFault (NotConvex at direction) refusal = refusal ≡ Some (not_convex at direction)
 IsFaceFault (TooManyFaces faces) refusal = refusal ≡ Some (too_many faces)
 IsFaceFault (Unreached face) refusal = refusal ≡ Some (unreached face)

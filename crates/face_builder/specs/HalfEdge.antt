@@ -13,7 +13,7 @@ use Rattle.crease_model.specs.declared.Piece.{Piece}
 use Rattle.plane_geometry.specs.Polygon.{Side, sides_of, side_number}
 use Rattle.crease_model.specs.View.{PatternView}
 use Rattle.face_builder.specs.declared.half_edges.HalfEdge.{HalfEdge}
-use Rattle.face_builder.specs.Sorted.{in_order}
+use Rattle.face_builder.specs.Sorted.{sorted_list}
 use Rattle.face_builder.specs.Vertices.{vertices_along}
 use Rattle.plane_geometry.specs.Position.{compare_points}
 
@@ -73,4 +73,4 @@ compare_half_edges g h =
 
 -- the half-edges of a pattern, by start, then by direction
 unfoldable pub half_edges_of : PatternView → List HalfEdge
-half_edges_of p = in_order compare_half_edges (all_half_edges p)
+half_edges_of p = sorted_list compare_half_edges (all_half_edges p)

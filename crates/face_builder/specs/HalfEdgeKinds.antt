@@ -9,7 +9,7 @@ use Rattle.crease_model.specs.declared.Piece.{Piece}
 use Rattle.crease_model.specs.Rules.{IsEndOf}
 use Rattle.crease_model.specs.View.{PatternView}
 use Rattle.face_builder.specs.declared.half_edges.HalfEdge.{HalfEdge}
-use Rattle.face_builder.specs.Vertices.{is_between}
+use Rattle.face_builder.specs.Vertices.{is_between_corners}
 
 -- from one end of the piece to the other
 abbrev pub RunsAlong : Piece → HalfEdge → Type 0
@@ -29,7 +29,7 @@ pub record IsOfPiece (p : PatternView) (h : HalfEdge) : Type 0 where
 abbrev pub IsVertexOn : PatternView → Side → Point → Type 0
 IsVertexOn p s v =
     ((v ≡ s.start) ⊎ (v ≡ s.end))
-    ⊎ ((q : Piece) × Contains p.pieces q × IsEndOf q v × IsTrue (is_between s v))
+    ⊎ ((q : Piece) × Contains p.pieces q × IsEndOf q v × IsTrue (is_between_corners s v))
 
 -- along a side, counterclockwise, from a vertex to another one, with none between them
 pub record IsOfBorder (p : PatternView) (h : HalfEdge) : Type 0 where

@@ -20,15 +20,15 @@ pub record IsNext (hs : List HalfEdge) (h g : HalfEdge) : Type 0 where
   pub nearest : (e : HalfEdge) → Contains hs e → e.start ≡ h.end → angle_between h g ≤ angle_between h e
 
 -- each goes on to the next of the list, and the last one to the first
-abbrev pub IsClosed : List HalfEdge → HalfEdge → HalfEdge → List HalfEdge → Type 0
-IsClosed hs first h [] = IsNext hs h first
-IsClosed hs first h (g ∷ gs) = IsNext hs h g × IsClosed hs first g gs
+abbrev pub IsClosedWalk : List HalfEdge → HalfEdge → HalfEdge → List HalfEdge → Type 0
+IsClosedWalk hs first h [] = IsNext hs h first
+IsClosedWalk hs first h (g ∷ gs) = IsNext hs h g × IsClosedWalk hs first g gs
 
 -- a face: a closed walk of half-edges
 abbrev pub IsRoundOf : List HalfEdge → List HalfEdge → Type 0
 IsRoundOf hs face =
     (first : HalfEdge) × (others : List HalfEdge) × (face ≡ first ∷ others) × Contains hs first
-    × IsClosed hs first first others
+    × IsClosedWalk hs first first others
 
 -- the face in this place has the half-edge, and no other face has it
 pub record IsInOneFace (faces : List (List HalfEdge)) (h : HalfEdge) : Type 0 where

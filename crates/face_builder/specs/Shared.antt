@@ -15,15 +15,15 @@ is_of_piece k h = is_number k h.piece
     is_number k (Some n) = nat_eq n k
 
 -- it goes from its lesser end to its greater one
-abbrev pub is_rising : HalfEdge → Bool
-is_rising h = is_lt (compare_points h.start h.end)
+abbrev pub is_upward : HalfEdge → Bool
+is_upward h = is_lt (compare_points h.start h.end)
 
 -- the piece of this number from its lesser end to its greater one, and back
 abbrev pub is_forward : ℕ → HalfEdge → Bool
-is_forward k h = is_of_piece k h && is_rising h
+is_forward k h = is_of_piece k h && is_upward h
 
 abbrev pub is_backward : ℕ → HalfEdge → Bool
-is_backward k h = is_of_piece k h && not (is_rising h)
+is_backward k h = is_of_piece k h && not (is_upward h)
 
 -- the number of the first face with such a half-edge, where the first face asked has the number f; 0 where
 -- there is none

@@ -4,13 +4,13 @@ use Rattle.std.specs.Ordering.{is_lt}
 use Rattle.std.specs.declared.cmp.Ordering.{Ordering}
 
 -- a list in order with one more
-abbrev pub with_in_order : {X : Type 0} → (X → X → Ordering) → X → List X → List X
-with_in_order compare x [] = x ∷ []
-with_in_order compare x (y ∷ ys) = if is_lt (compare y x) then y ∷ with_in_order compare x ys else x ∷ y ∷ ys
+abbrev pub sorted_with : {X : Type 0} → (X → X → Ordering) → X → List X → List X
+sorted_with compare x [] = x ∷ []
+sorted_with compare x (y ∷ ys) = if is_lt (compare y x) then y ∷ sorted_with compare x ys else x ∷ y ∷ ys
 
-unfoldable pub in_order : {X : Type 0} → (X → X → Ordering) → List X → List X
-in_order compare [] = []
-in_order compare (x ∷ xs) = with_in_order compare x (in_order compare xs)
+unfoldable pub sorted_list : {X : Type 0} → (X → X → Ordering) → List X → List X
+sorted_list compare [] = []
+sorted_list compare (x ∷ xs) = sorted_with compare x (sorted_list compare xs)
 
 -- without those that are the same as the one before, which for the first of the list is x
 abbrev pub others_after : {X : Type 0} → (X → X → Bool) → X → List X → List X

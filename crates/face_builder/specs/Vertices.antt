@@ -9,21 +9,21 @@ use Rattle.plane_geometry.specs.SegmentView.{lesser_end, greater_end}
 use Rattle.crease_model.specs.declared.Piece.{Piece}
 use Rattle.plane_geometry.specs.Polygon.{Side}
 use Rattle.crease_model.specs.Sheet.{is_on_segment}
-use Rattle.face_builder.specs.Sorted.{in_order, each_once}
+use Rattle.face_builder.specs.Sorted.{sorted_list, each_once}
 
 -- the points in ascending order, each once
 abbrev pub ascending_of : List Point → List Point
-ascending_of points = each_once is_same_point (in_order compare_points points)
+ascending_of points = each_once is_same_point (sorted_list compare_points points)
 
 -- on the side, and not at an end of it
-abbrev pub is_between : Side → Point → Bool
-is_between side v =
+abbrev pub is_between_corners : Side → Point → Bool
+is_between_corners side v =
     is_on_segment (position_of v) (segment_of side.start side.end)
     && (not (is_same_point v side.start) && not (is_same_point v side.end))
 
 -- the point, if it is between the ends of the side
 abbrev pub point_between : Side → Point → List Point
-point_between side v = if is_between side v then v ∷ [] else []
+point_between side v = if is_between_corners side v then v ∷ [] else []
 
 -- the ends of a piece that are between the ends of the side
 abbrev pub ends_between : Side → Piece → List Point

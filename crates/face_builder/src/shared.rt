@@ -1,7 +1,7 @@
 //! The faces on the two sides of each piece.
 
 ghost use Rattle.std.specs.Prelude.{◌≡◌, ℕ, ◌+◌, ◌<◌, length, not, IfOk, slice_index_or};
-ghost use Rattle.face_builder.specs.Shared.{is_rising, left_face, right_face, shared_from};
+ghost use Rattle.face_builder.specs.Shared.{is_upward, left_face, right_face, shared_from};
 ghost use Rattle.face_builder.specs.declared.shared.Sides.{Sides};
 ghost use Rattle.face_builder.specs.SideFill.{first_number, sides_with, sides_along, sides_among, half_edges_of_each};
 
@@ -27,8 +27,8 @@ pub struct Sides {
     pub right: u32,
 }
 
-fn is_rising(half_edge: &HalfEdge) -> bool
-    ensures { result ≡ is_rising half_edge.now }
+fn is_upward(half_edge: &HalfEdge) -> bool
+    ensures { result ≡ is_upward half_edge.now }
 {
     half_edge.start < half_edge.end
 }
@@ -61,7 +61,7 @@ fn put_half_edge(sides: &mut Vec<Sides>, face: u32, half_edge: &HalfEdge)
     if let Some(piece) = half_edge.piece {
         let place = piece as usize;
         if 0 < place && place <= sides.len() {
-            sides[place - 1] = with_side(sides[place - 1], face, is_rising(half_edge));
+            sides[place - 1] = with_side(sides[place - 1], face, is_upward(half_edge));
         }
     }
 }

@@ -5,8 +5,8 @@ ghost use Rattle.std.specs.List.{flat_map};
 ghost use Rattle.plane_geometry.specs.Position.{position_of, compare_points, is_same_point};
 ghost use Rattle.plane_geometry.specs.SegmentOf.{segment_of};
 ghost use Rattle.crease_model.specs.Sheet.{is_on_segment};
-ghost use Rattle.face_builder.specs.Sorted.{others_after, each_once, in_order};
-ghost use Rattle.face_builder.specs.Vertices.{is_between, point_between, ends_between, ascending_of, vertices_along};
+ghost use Rattle.face_builder.specs.Sorted.{others_after, each_once, sorted_list};
+ghost use Rattle.face_builder.specs.Vertices.{is_between_corners, point_between, ends_between, ascending_of, vertices_along};
 
 use crease_model::Piece;
 use plane_geometry::{Point, Segment, on_segment};
@@ -19,9 +19,9 @@ fn is_same(p: &Point, q: &Point) -> bool
 }
 
 // Whether the point is on the side from one corner to another, and not at an end of it.
-fn is_between(side: &Segment, start: &Point, end: &Point, v: &Point) -> bool
+fn is_between_corners(side: &Segment, start: &Point, end: &Point, v: &Point) -> bool
     requires { segment_of start.now end.now ≡ Some side.now }
-    ensures { result ≡ is_between (record { start = start.now; end = end.now }) v.now }
+    ensures { result ≡ is_between_corners (record { start = start.now; end = end.now }) v.now }
 {
     on_segment(v, side) && !is_same(v, start) && !is_same(v, end)
 }
@@ -38,7 +38,7 @@ fn push_between(
     ensures { OnOk result (points.new.items ≡ points.old.items
         ++ point_between (record { start = start.now; end = end.now }) v.now) }
 {
-    if is_between(side, start, end, v) {
+    if is_between_corners(side, start, end, v) {
         points.push(*v)?;
     }
     Ok(())
@@ -107,7 +107,7 @@ fn each_once(alloc: Global, points: &[Point]) -> Result<Vec<Point>, AllocError>
 }
 
 fn sorted(mut points: Vec<Point>) -> Vec<Point>
-    ensures { result.items ≡ in_order compare_points points.items }
+    ensures { result.items ≡ sorted_list compare_points points.items }
 {
     points.sort_unstable();
     points

@@ -10,7 +10,7 @@ use Rattle.sign_rules.specs.Rules.{RulesView}
 use Rattle.order_search.specs.Lists.{orders}
 use Rattle.worker_split.specs.declared.piece.Piece.{Piece}
 use Rattle.worker_split.specs.declared.answers.JobAnswer.TheVariants as job_answer
-use Rattle.worker_split.specs.Job.{JobView, opened, asked, posted, asked_piece, piece_at, posted_to}
+use Rattle.worker_split.specs.Job.{JobView, opened_job, asked, posted, asked_piece, piece_at, posted_to}
 use Rattle.job_enumeration.specs.Record.{JobEvent, Ask as OwnAsk, Post as OwnPost, Answer as OwnAnswer, after_event as own_after, job_after, IsJobRecordFrom, IsJobRecord}
 use Rattle.job_enumeration.specs.Closings.{closings_from, closings, shown_orders}
 use Rattle.job_enumeration.specs.Enumeration.{IsEnumeration, order_at}
@@ -206,7 +206,7 @@ none_before n s (Post x false) none legal = (refl, refl)
 
 pub opened-own : (n version : ℕ) (r : RulesView) (before after : List JobsEvent) (s : JobsView) → 1 ≤ s.budget
     → IsRecordFrom s (before ++ Open n version r ∷ after)
-    → IsOwn n 0 (opened n version r s.most) s.budget (before ++ Open n version r ∷ after)
+    → IsOwn n 0 (opened_job n version r s.most) s.budget (before ++ Open n version r ∷ after)
 opened-own n version r [] after s some legal =
     let number = legal.0.0 in
     let new = opened-new s version r in
@@ -222,12 +222,12 @@ opened-own n version r (e ∷ before) after s some legal =
     let rest = opened-own n version r before after (after_event s e) (some_budget s e some legal.0) legal.1 in
     let there = not_there s n (not_yet n version r (e ∷ before) after s legal) in
     let none = none_before n s e there legal.0 in
-    let later = subst (λ b. IsOwn n 0 (opened n version r s.most) b es) (sym (kept s e).budget)
-    (subst (λ most. IsOwn n 0 (opened n version r most) (after_event s e).budget es) (kept s e).most rest) in
+    let later = subst (λ b. IsOwn n 0 (opened_job n version r s.most) b es) (sym (kept s e).budget)
+    (subst (λ most. IsOwn n 0 (opened_job n version r most) (after_event s e).budget es) (kept s e).most rest) in
     let all : own_events_from n (budget_after s.budget e) es ≡ own_events_from n s.budget (e ∷ es) =
     ap (λ l. l ++ own_events_from n (budget_after s.budget e) es) (sym none.0) in
     record {
-      legal = subst (IsJobRecordFrom (opened n version r s.most)) all later.legal;
+      legal = subst (IsJobRecordFrom (opened_job n version r s.most)) all later.legal;
       shown = flat_map-cons (shown_by_event n) e es
           ∙ ap (λ l. l ++ shown_by n es) none.1
           ∙ later.shown
@@ -275,7 +275,7 @@ pub shows_orders : (most n version : ℕ) (r : RulesView) (es before after : Lis
 shows_orders most n version r es before after legal parts enumerate =
     let all = opened-own n version r before after (no_jobs most) (omega arith)
     (subst (IsJobsRecord most) parts legal) in
-    let here = subst (IsOwn n 0 (opened n version r most) (no_jobs most).budget) (sym parts) all in
+    let here = subst (IsOwn n 0 (opened_job n version r most) (no_jobs most).budget) (sym parts) all in
     let enumeration = enumerate (own_events n es) here.legal in
     let shown = orders_in (own_events n es) in
     let first : shown ≡ take (length (shown_orders (closings (own_events n es)))) (orders r) =

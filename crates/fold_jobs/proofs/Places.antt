@@ -16,13 +16,13 @@ use Rattle.worker_split.specs.declared.piece.LastTask.TheVariants.{Never, Asked,
 use Rattle.worker_split.specs.declared.answers.Taken.{Taken}
 use Rattle.worker_split.specs.declared.answers.Taken.TheVariants.{Accepted, Stranger}
 use Rattle.worker_split.specs.Tasks.{TaskView, task_of, IsRightOutcome}
-use Rattle.worker_split.specs.Job.{JobView, piece_at, task_at, task_from, task_by, posted, IsTaken, Matches, IsRightFor}
+use Rattle.worker_split.specs.Job.{JobView, piece_at, task_at, task_of_piece, task_by, posted, IsTaken, Matches, IsRightFor}
 use Rattle.fold_jobs.specs.declared.folding_job.FoldingJob.{FoldingJob}
 use Rattle.fold_jobs.specs.declared.folding_job.FoldAnswer.{FoldAnswer}
 use Rattle.fold_jobs.specs.declared.folding_job.FoldAnswer.TheVariants.{Shown, NoMore, Paused, NotReady}
 use Rattle.fold_jobs.specs.declared.refusal.JobRefusal.{JobRefusal}
 use Rattle.fold_jobs.specs.Machine.{JobsView, job_at, live_from, live_job, changed_from, answered, after_answer_to, MatchesJob, MatchesIn, kept_from, IsPosted, IsRightIn}
-use Rattle.fold_jobs.specs.Invariant.{AreNumbered}
+use Rattle.fold_jobs.specs.Invariant.{HaveTheirNumbers}
 
 -- a job that there is stands in the list
 pub record IsAt (s : JobsView) (n : ℕ) (j : FoldingJob) : Type 0 where
@@ -106,15 +106,15 @@ task_job j piece t e = by_ask (is_some j.ask) e
     by_end p (Ready order) last e = absurd (cc)
     by_end p Finished last e = absurd (cc)
 
-    by_piece : (o : Option Piece) → Some t ≡ task_from j piece o → t.job ≡ j.job
+    by_piece : (o : Option Piece) → Some t ≡ task_of_piece j piece o → t.job ≡ j.job
     by_piece None e = absurd (cc)
     by_piece (Some p) e = by_end p p.end p.last e
 
-    by_ask : (b : Bool) → Some t ≡ cond b (task_from j piece (piece_at j piece)) None → t.job ≡ j.job
+    by_ask : (b : Bool) → Some t ≡ cond b (task_of_piece j piece (piece_at j piece)) None → t.job ≡ j.job
     by_ask true e = by_piece (piece_at j piece) e
     by_ask false e = absurd (cc)
 
-pub numbered_at : (s : JobsView) (n : ℕ) (j : FoldingJob) → AreNumbered s.jobs → job_at s n ≡ Some j
+pub numbered_at : (s : JobsView) (n : ℕ) (j : FoldingJob) → HaveTheirNumbers s.jobs → job_at s n ≡ Some j
     → j.state.job ≡ n
 numbered_at s n j numbered found =
     let here = at_place s n j found in
@@ -123,7 +123,7 @@ numbered_at s n j numbered found =
 
 -- a task of a job names it
 pub job_in : {E : Type 0} (s : JobsView) (n : ℕ) (j : FoldingJob) (piece : ℕ) (result : Result (Option Task) E)
-    → job_at s n ≡ Some j → AreNumbered s.jobs
+    → job_at s n ≡ Some j → HaveTheirNumbers s.jobs
     → IfOk result (λ task. option_map task_of task ≡ task_at j.state piece)
     → IfOk result (λ task. IfSome task (λ t. t.job ≡ n))
 job_in s n j piece (Err e) found numbered task = task
@@ -133,7 +133,7 @@ job_in s n j piece (Ok (Some t)) found numbered task =
 
 -- an outcome that is right for a task of a job is right among all jobs
 pub right_in : {E : Type 0} (s : JobsView) (n : ℕ) (j : FoldingJob) (piece : ℕ)
-    (result : Result (Option Task) E) → job_at s n ≡ Some j → AreNumbered s.jobs
+    (result : Result (Option Task) E) → job_at s n ≡ Some j → HaveTheirNumbers s.jobs
     → IfOk result (λ task. option_map task_of task ≡ task_at j.state piece)
     → IfOk result (λ task. IfSome task (λ t. (x : Outcome) → IsRightOutcome (task_of t) x
     → IsRightFor j.state x))
@@ -147,7 +147,7 @@ right_in s n j piece (Ok (Some t)) found numbered task right = λ x is_right.
 
 -- an outcome that is right for a task of a live job matches among all jobs
 pub answers_in : {E : Type 0} (s : JobsView) (n : ℕ) (j : FoldingJob) (piece : ℕ)
-    (result : Result (Option Task) E) → job_at s n ≡ Some j → j.cancelled ≡ false → AreNumbered s.jobs
+    (result : Result (Option Task) E) → job_at s n ≡ Some j → j.cancelled ≡ false → HaveTheirNumbers s.jobs
     → IfOk result (λ task. option_map task_of task ≡ task_at j.state piece)
     → IfOk result (λ task. IfSome task (λ t. (x : Outcome) → IsRightOutcome (task_of t) x
     → Matches j.state x))

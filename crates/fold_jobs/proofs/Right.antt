@@ -6,7 +6,7 @@ use Rattle.std.proofs.lemmas.List.{length-set, get_or-set_same, get_or-set_other
 use Rattle.std.proofs.lemmas.Option.{same_Some, slice_get-get_or, get_or_from_slice_get, slice_get_within}
 use Rattle.sign_rules.specs.declared.sign.Sign.{Sign}
 use Rattle.sign_rules.specs.Signs.{OrderView}
-use Rattle.search_cursor.specs.Place.{Place, place_of}
+use Rattle.search_cursor.specs.Place.{SearchPlace, search_place}
 use Rattle.worker_split.specs.declared.outcome.Outcome.{Outcome}
 use Rattle.worker_split.specs.declared.outcome.End.{End}
 use Rattle.worker_split.specs.declared.outcome.End.TheVariants.{Found, Done, Paused as Stopped}
@@ -89,7 +89,7 @@ right_with j ps a x keeps right p known job version = by_test (eqb x.piece 0) re
           piece = x.piece;
           rules = j.rules;
           prefix = prefix;
-          from = place_of x.from;
+          from = search_place x.from;
           budget = x.budget;
         } in
         subst (λ o. IsRightEnd (told o) x.end) (ap (λ (o : OrderView). o.list) k.prefix)
@@ -183,7 +183,7 @@ right_stays s (Post y false) x right = right
 
 right_named : (j : JobView) (x : Outcome) → IsRightFor j x → IsRightWhereNamed j x
 right_named j x right p known names =
-    let task : Place → TaskView = λ from.
+    let task : SearchPlace → TaskView = λ from.
     record {
       job = j.job;
       version = j.version;

@@ -13,14 +13,14 @@ open_asks (Some budget) = 1
 abbrev pub ShowsAtMost : ℕ → FoldingJob → Type 0
 ShowsAtMost asks j = j.shown + open_asks j.state.ask ≤ asks
 
-abbrev pub AreNumbered : List FoldingJob → Type 0
-AreNumbered jobs =
+abbrev pub HaveTheirNumbers : List FoldingJob → Type 0
+HaveTheirNumbers jobs =
     (place : ℕ) (d : FoldingJob) → place < length jobs → (slice_index_or jobs place d).state.job ≡ place + 1
 
 -- jobs have the numbers of their places, and a job shows at most one order an ask
 pub record AreJobs (s : JobsView) : Type 0 where
   pub few : length s.jobs ≤ most_jobs
-  pub numbered : AreNumbered s.jobs
+  pub numbered : HaveTheirNumbers s.jobs
   pub shown : All (ShowsAtMost s.asks) s.jobs
   pub asks : s.asks ≤ most_asks
   pub some_budget : 1 ≤ s.budget

@@ -10,7 +10,7 @@ use Rattle.worker_split.specs.declared.answers.Taken.TheVariants.{Accepted, Stra
 use Rattle.worker_split.specs.declared.answers.JobAnswer.{JobAnswer}
 use Rattle.worker_split.specs.declared.answers.JobAnswer.TheVariants as job_answer
 use Rattle.worker_split.specs.Tasks.{TaskView}
-use Rattle.worker_split.specs.Job.{opened, asked, task_at, Matches, IsRightFor, IsRightWhereNamed, posted, kept_of, next_answer, after_answer, needed}
+use Rattle.worker_split.specs.Job.{opened_job, asked, task_at, Matches, IsRightFor, IsRightWhereNamed, posted, kept_of, next_answer, after_answer, needed}
 use Rattle.fold_jobs.specs.declared.folding_job.FoldingJob.{FoldingJob}
 use Rattle.fold_jobs.specs.declared.folding_job.FoldAnswer.{FoldAnswer}
 use Rattle.fold_jobs.specs.declared.folding_job.FoldAnswer.TheVariants.{Shown, NoMore, Paused, NotReady}
@@ -59,7 +59,7 @@ is_full s = nat_le most_jobs (length s.jobs)
 
 abbrev pub new_job : ℕ → ℕ → RulesView → ℕ → FoldingJob
 new_job number version rules most =
-    record { state = opened number version rules most; shown = 0; cancelled = false }
+    record { state = opened_job number version rules most; shown = 0; cancelled = false }
 
 abbrev pub opened_in : JobsView → ℕ → RulesView → JobsView
 opened_in s version rules =

@@ -10,9 +10,9 @@ use Rattle.std.proofs.lemmas.List.Sums.{sum_by-cons, sum_by-append}
 use Rattle.surd_number.specs.NumberLaws.{difference_of-same}
 use Rattle.plane_geometry.specs.declared.Point.{Point}
 use Rattle.plane_geometry.specs.Position.{Position, position_of, vector_of}
-use Rattle.plane_geometry.specs.Direction.{direction_vector, is_along, is_zero, is_positive, direction_of}
+use Rattle.plane_geometry.specs.Direction.{direction_vector, is_along, is_zero, is_positive, direction_of, opposite_number}
 use Rattle.plane_geometry.specs.Multiple.{IsSameVector}
-use Rattle.plane_geometry.specs.DirectionLaws.{opposite_number, along_unique, along_back, direction_found, direction_none}
+use Rattle.plane_geometry.specs.DirectionLaws.{along_unique, along_back, direction_found, direction_none}
 use Rattle.plane_geometry.specs.Polygon.{Side, sides_from, sides_of, side_number, turn_of, turns_from, turns_of, directions_of, has_direction, have_directions, whole_turn, is_convex_turn, is_convex}
 use Rattle.isometry_map.specs.Linear.{is_reflection, direction_image}
 use Rattle.isometry_map.specs.Motion.{Motion, image_by}

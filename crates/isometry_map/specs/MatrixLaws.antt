@@ -15,35 +15,35 @@ use Rattle.isometry_map.specs.Laws.{CompositionIsProduct, PartsDiffer, Reflectio
 
 -- ---- tests of sameness
 
-abbrev pub is_same : Number → Number → Bool
-is_same x y = is_eq (compare_of x y)
+abbrev pub is_same_number : Number → Number → Bool
+is_same_number x y = is_eq (compare_of x y)
 
 equal_is : (o : Ordering) → is_eq o ≡ true → o ≡ Equal
 equal_is Less e = absurd (cc)
 equal_is Equal e = refl
 equal_is Greater e = absurd (cc)
 
-pub same_is : (x y : Number) → is_same x y ≡ true → IsSame x y
+pub same_is : (x y : Number) → is_same_number x y ≡ true → IsSame x y
 same_is x y e = (compare_of-equal x y).0 (equal_is (compare_of x y) e)
 
-is_same_from : (x y : Number) → IsSame x y → is_same x y ≡ true
+is_same_from : (x y : Number) → IsSame x y → is_same_number x y ≡ true
 is_same_from x y same = ap is_eq ((compare_of-equal x y).1 same)
 
 abbrev is_same_vector : Position → Position → Bool
-is_same_vector u v = is_same u.x v.x && is_same u.y v.y
+is_same_vector u v = is_same_number u.x v.x && is_same_number u.y v.y
 
 same_vector : (u v : Position) → is_same_vector u v ≡ true → IsSameVector u v
-same_vector u v e = let h = and_parts (is_same u.x v.x) (is_same u.y v.y) e
+same_vector u v e = let h = and_parts (is_same_number u.x v.x) (is_same_number u.y v.y) e
     in (same_is u.x v.x h.0, same_is u.y v.y h.1)
 
 abbrev is_same_matrix : Matrix → Matrix → Bool
-is_same_matrix m n = (is_same m.xx n.xx && is_same m.xy n.xy) && (is_same m.yx n.yx && is_same m.yy n.yy)
+is_same_matrix m n = (is_same_number m.xx n.xx && is_same_number m.xy n.xy) && (is_same_number m.yx n.yx && is_same_number m.yy n.yy)
 
 same_matrix : (m n : Matrix) → is_same_matrix m n ≡ true → IsSameMatrix m n
 same_matrix m n e =
-    let h = and_parts (is_same m.xx n.xx && is_same m.xy n.xy) (is_same m.yx n.yx && is_same m.yy n.yy) e in
-    let top = and_parts (is_same m.xx n.xx) (is_same m.xy n.xy) h.0 in
-    let low = and_parts (is_same m.yx n.yx) (is_same m.yy n.yy) h.1 in
+    let h = and_parts (is_same_number m.xx n.xx && is_same_number m.xy n.xy) (is_same_number m.yx n.yx && is_same_number m.yy n.yy) e in
+    let top = and_parts (is_same_number m.xx n.xx) (is_same_number m.xy n.xy) h.0 in
+    let low = and_parts (is_same_number m.yx n.yx) (is_same_number m.yy n.yy) h.1 in
     record {
       xx = same_is m.xx n.xx top.0;
       xy = same_is m.xy n.xy top.1;
@@ -119,7 +119,7 @@ reflections_keep_their_lines n few =
     (same_vector (image along) along h.0, same_vector (image across) (opposite_of across) h.1)
 
 reverses : ℕ → Bool
-reverses n = is_same (determinant (matrix_of n)) (cond (is_reflection n) (whole (negsuc 0)) (whole (pos 1)))
+reverses n = is_same_number (determinant (matrix_of n)) (cond (is_reflection n) (whole (negsuc 0)) (whole (pos 1)))
 
 reverses_table : agree_below reverses (λ _. true) 16 ≡ true
 unfolding reverses

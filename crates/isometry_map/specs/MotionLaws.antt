@@ -24,7 +24,7 @@ use Rattle.isometry_map.specs.Matrix.{Matrix, matrix_of, determinant, image_of, 
 use Rattle.isometry_map.specs.Motion.{Motion, image_by, IsSameMap, IsShiftWithin}
 use Rattle.isometry_map.specs.IsometryView.{motion_of}
 use Rattle.isometry_map.specs.Laws.{DirectionsGoToDirections, SidesAreKept, IsometriesAreTheirMaps}
-use Rattle.isometry_map.specs.MatrixLaws.{is_same, same_is, holds_at, holds_at_both, parts_differ, turned_reverse}
+use Rattle.isometry_map.specs.MatrixLaws.{is_same_number, same_is, holds_at, holds_at_both, parts_differ, turned_reverse}
 
 -- ---- tables
 
@@ -70,11 +70,11 @@ pub record IsOrthogonal (m : Matrix) : Type 0 where
 
 is_orthogonal : ℕ → Bool
 is_orthogonal i =
-    is_same (sum_of (product_of (matrix_of i).xx (matrix_of i).xx)
+    is_same_number (sum_of (product_of (matrix_of i).xx (matrix_of i).xx)
     (product_of (matrix_of i).yx (matrix_of i).yx)) one
-    && (is_same (sum_of (product_of (matrix_of i).xx (matrix_of i).xy)
+    && (is_same_number (sum_of (product_of (matrix_of i).xx (matrix_of i).xy)
     (product_of (matrix_of i).yx (matrix_of i).yy)) nought
-    && is_same (sum_of (product_of (matrix_of i).xy (matrix_of i).xy)
+    && is_same_number (sum_of (product_of (matrix_of i).xy (matrix_of i).xy)
     (product_of (matrix_of i).yy (matrix_of i).yy)) one)
 
 orthogonal_table : agree_below is_orthogonal (λ _. true) 16 ≡ true
@@ -88,9 +88,9 @@ orthogonal i few =
     let a = sum_of (product_of m.xx m.xx) (product_of m.yx m.yx) in
     let b = sum_of (product_of m.xx m.xy) (product_of m.yx m.yy) in
     let d = sum_of (product_of m.xy m.xy) (product_of m.yy m.yy) in
-    let h = and_parts (is_same a one) (is_same b nought && is_same d one)
+    let h = and_parts (is_same_number a one) (is_same_number b nought && is_same_number d one)
     (holds_at is_orthogonal i orthogonal_table few) in
-    let k = and_parts (is_same b nought) (is_same d one) h.1 in
+    let k = and_parts (is_same_number b nought) (is_same_number d one) h.1 in
     record { first = same_is a one h.0; both = same_is b nought k.0; second = same_is d one k.1 }
 
 -- ---- cross and dot products of images

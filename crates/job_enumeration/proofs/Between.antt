@@ -10,7 +10,7 @@ use Rattle.order_search.specs.ListLaws.{Each, each_of}
 use Rattle.worker_split.specs.declared.piece.Piece.{Piece}
 use Rattle.worker_split.specs.declared.answers.JobAnswer.TheVariants.{Shown as Showing, NoMore as Ended, Paused as Waiting, NotReady}
 use Rattle.worker_split.specs.Pieces.{pieces_of}
-use Rattle.worker_split.specs.Job.{JobView, opened, new_piece, reopened_end, after_answer}
+use Rattle.worker_split.specs.Job.{JobView, opened_job, new_piece, reopened_end, after_answer}
 use Rattle.job_enumeration.specs.Record.{JobEvent, Ask, Post, Answer, after_event, IsLegalEvent, IsJobRecordFrom, IsJobRecord}
 use Rattle.job_enumeration.specs.Closings.{closings_from, closings, after_shown, paused_budgets}
 use Rattle.job_enumeration.specs.Enumeration.{follows, precedes, begins_with_any, open_between}
@@ -153,14 +153,14 @@ pub pauses-between : (job version : ℕ) (r : RulesView) (most : ℕ) (es : List
 unfolding open_between
 pauses-between job version r most es legal zero =
     let reached = reached-opened job version r most in
-    let pauses = next-pauses r (pieces_of r most) es (opened job version r most) 0 reached
+    let pauses = next-pauses r (pieces_of r most) es (opened_job job version r most) 0 reached
     (told-closed 0) legal in
     let between = rooms-opened r (pieces_of r most) (parted-pieces r most) reached.kept in
     let left = ap (λ l. lists_between_orders r (pieces_of r most) None (slice_get l 0))
     (left-opened job version r most) in
     omega (arith, pauses, between, left)
 pauses-between job version r most es legal (suc k) =
-    let pauses = later-pauses r (pieces_of r most) (parted-pieces r most) es (opened job version r most) 0 k
+    let pauses = later-pauses r (pieces_of r most) (parted-pieces r most) es (opened_job job version r most) 0 k
     (reached-opened job version r most) (told-closed 0) legal in
     let left = ap (λ l. between_at r (pieces_of r most) l k) (left-opened job version r most) in
     omega (arith, pauses, left)

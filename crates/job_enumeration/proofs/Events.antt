@@ -16,7 +16,7 @@ use Rattle.worker_split.specs.declared.outcome.End.{End}
 use Rattle.worker_split.specs.declared.outcome.End.TheVariants.{Found, Done, Paused}
 use Rattle.worker_split.specs.Tasks.{IsRightEnd}
 use Rattle.worker_split.specs.Pieces.{pieces_of}
-use Rattle.worker_split.specs.Job.{JobView, opened, new_piece, asked, asked_piece, task_with, NamesTask, Matches, answered_piece, posted, posted_to, done_before, next_answer, reopened_end, reopened, after_answer}
+use Rattle.worker_split.specs.Job.{JobView, opened_job, new_piece, asked, asked_piece, task_with, NamesTask, Matches, answered_piece, posted, posted_to, done_before, next_answer, reopened_end, reopened, after_answer}
 use Rattle.job_enumeration.specs.Record.{JobEvent, Ask, Post, Answer, after_event, IsRightPost, IsLegalEvent}
 use Rattle.job_enumeration.proofs.Parted.{orders-by_piece}
 use Rattle.job_enumeration.proofs.Steps.{piece_left, pieces_left, IsPieceAt, piece_place, named_piece, IsFirst, first_piece, left-replaced, left-asked, left-answered, left-shown, shown_by}
@@ -33,7 +33,7 @@ each-new lists = each_mapped (IsKept None) new_piece lists
     (each_of (λ l. IsKept None (new_piece l)) (λ l. kept-new None l) lists)
 
 pub reached-opened : (job version : ℕ) (r : RulesView) (most : ℕ)
-    → IsReached r (pieces_of r most) (opened job version r most)
+    → IsReached r (pieces_of r most) (opened_job job version r most)
 reached-opened job version r most = record {
   rules = refl;
   prefixes = prefixes-new (pieces_of r most);
@@ -46,7 +46,7 @@ left-new r [] = refl
 left-new r (l ∷ lists) = ap (λ ls. remaining r l (before l) ++ ls) (left-new r lists)
 
 pub left-opened : (job version : ℕ) (r : RulesView) (most : ℕ)
-    → pieces_left r (opened job version r most).pieces ≡ orders r
+    → pieces_left r (opened_job job version r most).pieces ≡ orders r
 left-opened job version r most = left-new r (pieces_of r most) ∙ orders-by_piece r most
 
 -- ---- asks

@@ -2,7 +2,7 @@
 use Rattle.std.proofs.Common.{◌≡◌, ℕ, ◌≤◌, true, List, [], ◌∷◌, ◌++◌, map, Option, Some, None, refl, ap, subst, arith}
 use Rattle.sign_rules.specs.declared.sign.Sign.{Sign}
 use Rattle.sign_rules.specs.Signs.{OrderView}
-use Rattle.search_cursor.specs.Place.{place_of, is_passed, begins_with}
+use Rattle.search_cursor.specs.Place.{search_place, is_passed, begins_with}
 use Rattle.order_search.specs.ListLaws.{Each, each_map}
 use Rattle.worker_split.specs.declared.outcome.End.{End}
 use Rattle.worker_split.specs.declared.outcome.End.TheVariants.{Found, Done, Paused}
@@ -82,7 +82,7 @@ kept-answered t ask p budget (Found order position) prefix is_open right kept = 
       × (is_passed o.list position.signs.list position.past ≡ true)) own
       (subst (λ l. (begins_with l order.list ≡ true)
       × (is_passed order.list position.signs.list position.past ≡ true)) prefix
-      (passed-first t.rules t.prefix t.from (place_of position) order.list right.0));
+      (passed-first t.rules t.prefix t.from (search_place position) order.list right.0));
 }
 kept-answered t ask p budget Done prefix is_open right kept = record {
   is_open = λ b e. absurd (cc);

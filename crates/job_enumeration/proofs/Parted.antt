@@ -8,7 +8,7 @@ use Rattle.std.proofs.lemmas.List.Concat.{flat_map-append}
 use Rattle.sign_rules.specs.declared.sign.Sign.{Sign}
 use Rattle.sign_rules.specs.declared.sign.Sign.TheVariants.{Over, Under}
 use Rattle.sign_rules.specs.Rules.{RulesView, is_consistent}
-use Rattle.search_cursor.specs.Place.{Place, is_passed, list_before, begins_with}
+use Rattle.search_cursor.specs.Place.{SearchPlace, is_passed, list_before, begins_with}
 use Rattle.order_search.specs.Lists.{all_lists, orders, remaining}
 use Rattle.order_search.specs.Walking.{before}
 use Rattle.order_search.specs.ListLaws.{Each, each_of, each_map, each_append, each_mapped, each_filter, filter_same, filter_none, filter_filter, over, under, by_first, none_begins}
@@ -131,7 +131,7 @@ first_out f g (x ∷ xs) o h e = by_tests (f x) (g x) refl refl (λ k. first_out
     by_tests false false m n rest e = rest e
 
 -- the first order that is left at a place, where the others are left at a second one, stands before the second
-pub passed-first : (r : RulesView) (prefix : List Sign) (from to : Place) (order : List Sign)
+pub passed-first : (r : RulesView) (prefix : List Sign) (from to : SearchPlace) (order : List Sign)
     → remaining r prefix from ≡ order ∷ remaining r prefix to
     → (begins_with prefix order ≡ true) × (is_passed order to.signs to.past ≡ true)
 unfolding remaining

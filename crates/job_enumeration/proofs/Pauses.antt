@@ -5,7 +5,7 @@ use Rattle.std.specs.List.{filter}
 use Rattle.std.proofs.lemmas.Bool.{true≢false, or_cases, or_left, or_right, not-true}
 use Rattle.sign_rules.specs.declared.sign.Sign.{Sign}
 use Rattle.sign_rules.specs.Rules.{RulesView}
-use Rattle.search_cursor.specs.Place.{place_of, is_passed, list_before, begins_with}
+use Rattle.search_cursor.specs.Place.{search_place, is_passed, list_before, begins_with}
 use Rattle.order_search.specs.Lists.{open_lists, remaining}
 use Rattle.order_search.specs.ListLaws.{Each}
 use Rattle.worker_split.specs.declared.outcome.Outcome.{Outcome}
@@ -146,7 +146,7 @@ first-begins r ask p kept o e = by_end p.end refl e
   where
     by_end : (end : PieceEnd) → p.end ≡ end → slice_get (end_left r p end) 0 ≡ Some o
         → begins_with p.prefix.list o ≡ true
-    by_end Open is e = (first-left r p.prefix.list (place_of p.kept) o e).0
+    by_end Open is e = (first-left r p.prefix.list (search_place p.kept) o e).0
     by_end (Ready order) is e =
         let same : order.list ≡ o = (cc) in
         subst (λ l. begins_with p.prefix.list l ≡ true) same (kept.ready order is).0
@@ -172,7 +172,7 @@ first-begins_any r ask (p ∷ ps) kept o e =
 -- with a first piece of which nothing is left
 skip-piece : (r : RulesView) (ask : Option ℕ) (order : Option (List Sign)) (p : Piece) (ps : List Piece)
     → IsParted (prefixes_of (p ∷ ps)) → Each (IsKept ask) ps → StandsAfter order p
-    → length (lists_ahead (open_lists r) p.prefix.list (place_of p.kept) None)
+    → length (lists_ahead (open_lists r) p.prefix.list (search_place p.kept) None)
     + lists_between_orders r (prefixes_of ps) order (slice_get (pieces_left r ps) 0)
     ≤ lists_between_orders r (prefixes_of (p ∷ ps)) order (slice_get (pieces_left r ps) 0)
 skip-piece r ask order p ps parted kept after =
@@ -208,7 +208,7 @@ skip-piece r ask order p ps parted kept after =
 own-piece : (r : RulesView) (order : Option (List Sign)) (p : Piece) (ps : List (List Sign))
     (next : List Sign)
     → StandsAfter order p
-    → length (lists_ahead (open_lists r) p.prefix.list (place_of p.kept) (Some next))
+    → length (lists_ahead (open_lists r) p.prefix.list (search_place p.kept) (Some next))
     ≤ lists_between_orders r (p.prefix.list ∷ ps) order (Some next)
 own-piece r order p ps next after =
     let prefix = p.prefix.list in
@@ -231,7 +231,7 @@ rooms-between r ask order (p ∷ ps) parted kept after =
   where
     by_left : (left : List (List Sign))
         → rooms r None ps ≤ lists_between_orders r (prefixes_of ps) order (slice_get (pieces_left r ps) 0)
-        → length (lists_ahead (open_lists r) p.prefix.list (place_of p.kept) (slice_get left 0))
+        → length (lists_ahead (open_lists r) p.prefix.list (search_place p.kept) (slice_get left 0))
         + room_behind left (rooms r None ps)
         ≤ lists_between_orders r (prefixes_of (p ∷ ps)) order (slice_get (left ++ pieces_left r ps) 0)
     by_left [] later =
@@ -247,7 +247,7 @@ rooms-between r ask order (p ∷ ps) parted kept after =
         ≤ lists_between_orders r (prefixes_of (p ∷ ps)) order
         (slice_get (end_left r p end ++ pieces_left r ps) 0)
     by_end Open later =
-        let own = by_left (remaining r p.prefix.list (place_of p.kept)) later in
+        let own = by_left (remaining r p.prefix.list (search_place p.kept)) later in
         omega (arith, own)
     by_end (Ready o) later = omega arith
     by_end Finished later =

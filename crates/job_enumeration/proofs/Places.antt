@@ -5,7 +5,7 @@ use Rattle.std.proofs.lemmas.Bool.{true≢false, cases_Bool, and_from, and_parts
 use Rattle.sign_rules.specs.declared.sign.Sign.{Sign}
 use Rattle.sign_rules.specs.declared.sign.Sign.TheVariants.{Over, Under}
 use Rattle.sign_rules.specs.Rules.{RulesView}
-use Rattle.search_cursor.specs.Place.{Place, is_passed, list_before, begins_with}
+use Rattle.search_cursor.specs.Place.{SearchPlace, is_passed, list_before, begins_with}
 use Rattle.order_search.specs.Lists.{orders, remaining, lists_between}
 use Rattle.job_enumeration.specs.Enumeration.{precedes}
 
@@ -104,19 +104,19 @@ passed_earlier q o s x h k = elim (cases_Bool (is_passed q s x)) [
 -- ---- pauses
 
 -- the lists that begin with a prefix, do not stand before a place, and stand before the next order, if there is one
-abbrev pub lists_ahead : List (List Sign) → List Sign → Place → Option (List Sign) → List (List Sign)
+abbrev pub lists_ahead : List (List Sign) → List Sign → SearchPlace → Option (List Sign) → List (List Sign)
 lists_ahead lists prefix place next =
     filter (λ q. begins_with prefix q && not (is_passed q place.signs place.past) && precedes next q) lists
 
 -- a list between two places says that the second comes later
-pub onward : (from to : Place) (between : List Sign) → is_passed between from.signs from.past ≡ false
+pub onward : (from to : SearchPlace) (between : List Sign) → is_passed between from.signs from.past ≡ false
     → is_passed between to.signs to.past ≡ true → (q : List Sign) → is_passed q from.signs from.past ≡ true
     → is_passed q to.signs to.past ≡ true
 onward from to between h k q passed =
     passed_earlier q between to.signs to.past (passed_apart q between from.signs from.past passed h) k
 
 -- what a pause passed is ahead no more
-pub pause-ahead : (lists : List (List Sign)) (prefix : List Sign) (from to : Place)
+pub pause-ahead : (lists : List (List Sign)) (prefix : List Sign) (from to : SearchPlace)
     (next : Option (List Sign)) (budget : ℕ) → 1 ≤ budget
     → budget ≤ length (lists_between lists prefix from to)
     → ((o : List Sign) → next ≡ Some o → is_passed o to.signs to.past ≡ false)
@@ -163,7 +163,7 @@ pause-ahead lists prefix from to next budget some enough unpassed =
     ]
 
 -- the first order that is left at a place begins with the prefix and does not stand before the place
-pub first-left : (r : RulesView) (prefix : List Sign) (place : Place) (o : List Sign)
+pub first-left : (r : RulesView) (prefix : List Sign) (place : SearchPlace) (o : List Sign)
     → slice_get (remaining r prefix place) 0 ≡ Some o
     → (begins_with prefix o ≡ true) × (is_passed o place.signs place.past ≡ false)
 unfolding remaining

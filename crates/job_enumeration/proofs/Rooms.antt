@@ -2,7 +2,7 @@
 use Rattle.std.proofs.Common.{◌≡◌, ℕ, ◌+◌, ◌≤◌, List, [], ◌∷◌, ◌++◌, length, map, Option, None, Some, slice_get, refl, ◌∙◌, ap, arith}
 use Rattle.sign_rules.specs.declared.sign.Sign.{Sign}
 use Rattle.sign_rules.specs.Rules.{RulesView}
-use Rattle.search_cursor.specs.Place.{Place, place_of}
+use Rattle.search_cursor.specs.Place.{SearchPlace, search_place}
 use Rattle.order_search.specs.Lists.{open_lists, remaining}
 use Rattle.order_search.specs.ListLaws.{Each}
 use Rattle.worker_split.specs.declared.outcome.End.{End}
@@ -26,8 +26,8 @@ credit (Some budget) (Answered b) = budget
 
 -- the open lists from the kept position on that stand before the first order that is left
 abbrev pub piece_ahead : RulesView → Piece → List (List Sign)
-piece_ahead r p = lists_ahead (open_lists r) p.prefix.list (place_of p.kept)
-    (slice_get (remaining r p.prefix.list (place_of p.kept)) 0)
+piece_ahead r p = lists_ahead (open_lists r) p.prefix.list (search_place p.kept)
+    (slice_get (remaining r p.prefix.list (search_place p.kept)) 0)
 
 abbrev pub end_room : RulesView → Option ℕ → Piece → PieceEnd → ℕ
 end_room r ask p Open = credit ask p.last + length (piece_ahead r p)
@@ -124,7 +124,7 @@ paused-credit None budget same = omega arith
 paused-credit (Some c) budget same = let own = same c refl in omega (arith, own)
 
 pub answered-room : (t : TaskView) (ask : Option ℕ) (p : Piece) (end : End) → t.prefix ≡ p.prefix.list
-    → t.from ≡ place_of p.kept → p.end ≡ Open → 1 ≤ t.budget → ((c : ℕ) → ask ≡ Some c → t.budget ≡ c)
+    → t.from ≡ search_place p.kept → p.end ≡ Open → 1 ≤ t.budget → ((c : ℕ) → ask ≡ Some c → t.budget ≡ c)
     → IsRightEnd t end
     → end_room t.rules ask (answered_piece p t.budget end) (answered_piece p t.budget end).end
     ≤ end_room t.rules ask p p.end
@@ -135,14 +135,14 @@ answered-room t ask p (Paused position) prefix from is_open some same right =
     let old = ap (end_room t.rules ask p) is_open in
     let now = ap (end_room t.rules ask new) is_open in
     let own = paused-credit ask t.budget same in
-    let next = slice_get (remaining t.rules t.prefix (place_of position)) 0 in
-    let pause = pause-ahead (open_lists t.rules) t.prefix t.from (place_of position) next t.budget
+    let next = slice_get (remaining t.rules t.prefix (search_place position)) 0 in
+    let pause = pause-ahead (open_lists t.rules) t.prefix t.from (search_place position) next t.budget
     some right.1
-    (λ o e. (first-left t.rules t.prefix (place_of position) o e).1) in
-    let ahead = λ (l : List Sign) (from : Place) (next : Option (List Sign)).
+    (λ o e. (first-left t.rules t.prefix (search_place position) o e).1) in
+    let ahead = λ (l : List Sign) (from : SearchPlace) (next : Option (List Sign)).
     length (lists_ahead (open_lists t.rules) l from next) in
-    let after : ahead t.prefix (place_of position) next ≡ length (piece_ahead t.rules new) =
-    ap (λ l. ahead l (place_of position) (slice_get (remaining t.rules l (place_of position)) 0)) prefix in
+    let after : ahead t.prefix (search_place position) next ≡ length (piece_ahead t.rules new) =
+    ap (λ l. ahead l (search_place position) (slice_get (remaining t.rules l (search_place position)) 0)) prefix in
     let before : ahead t.prefix t.from next ≡ length (piece_ahead t.rules p) =
     ap (λ l. ahead t.prefix t.from (slice_get l 0)) right.0
     ∙ ap (λ l. ahead l t.from (slice_get (remaining t.rules l t.from) 0)) prefix

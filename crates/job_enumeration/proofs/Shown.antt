@@ -12,7 +12,7 @@ use Rattle.worker_split.specs.declared.piece.Piece.{Piece}
 use Rattle.worker_split.specs.declared.piece.PieceEnd.TheVariants.{Done as Finished}
 use Rattle.worker_split.specs.declared.answers.JobAnswer.TheVariants.{Shown as Showing, NoMore as Ended, Paused as Waiting, NotReady}
 use Rattle.worker_split.specs.Pieces.{pieces_of}
-use Rattle.worker_split.specs.Job.{JobView, opened, asked_piece, done_before, next_answer}
+use Rattle.worker_split.specs.Job.{JobView, opened_job, asked_piece, done_before, next_answer}
 use Rattle.job_enumeration.specs.Record.{JobEvent, Ask, Post, Answer, after_event, IsLegalEvent, IsJobRecordFrom, IsJobRecord}
 use Rattle.job_enumeration.specs.Closings.{Closing, Shown, NoMore, Paused, closings_from, closings, shown_orders}
 use Rattle.job_enumeration.proofs.Steps.{pieces_left, finished_left, all_finished, first_piece, waiting_for}
@@ -56,7 +56,7 @@ pub shown-first : (job version : ℕ) (r : RulesView) (most : ℕ) (es : List Jo
     × (length (shown_orders (closings es)) ≤ length (orders r))
 shown-first job version r most es legal =
     let shown = shown_orders (closings es) in
-    let front = shown-front r (pieces_of r most) es (opened job version r most) 0
+    let front = shown-front r (pieces_of r most) es (opened_job job version r most) 0
     (reached-opened job version r most) legal in
     let whole : shown ++ front.0 ≡ orders r = front.1 ∙ left-opened job version r most in (
       sym (take_at shown front.0 (length shown) refl) ∙ ap (take (length shown)) whole,
@@ -183,7 +183,7 @@ pub no_more-last : (job version : ℕ) (r : RulesView) (most : ℕ) (es : List J
     → (before after : List Closing) → closings es ≡ before ++ NoMore ∷ after
     → (shown_orders before ≡ orders r) × All (λ c. c ≡ NoMore) after
 no_more-last job version r most es legal before after parts =
-    let own = last r (pieces_of r most) es (opened job version r most) 0
+    let own = last r (pieces_of r most) es (opened_job job version r most) 0
     (reached-opened job version r most) legal
     before after parts in
     (own.0 ∙ left-opened job version r most, own.1)

@@ -8,7 +8,7 @@ use Rattle.std.proofs.lemmas.Option.{slice_get_within, get_or_from_slice_get, sl
 use Rattle.sign_rules.specs.declared.sign.Sign.{Sign}
 use Rattle.sign_rules.specs.Signs.{OrderView}
 use Rattle.sign_rules.specs.Rules.{RulesView}
-use Rattle.search_cursor.specs.Place.{place_of}
+use Rattle.search_cursor.specs.Place.{search_place}
 use Rattle.order_search.specs.Lists.{remaining}
 use Rattle.order_search.specs.ListLaws.{Each}
 use Rattle.worker_split.specs.declared.outcome.Outcome.{Outcome}
@@ -21,12 +21,12 @@ use Rattle.worker_split.specs.declared.piece.LastTask.{LastTask}
 use Rattle.worker_split.specs.declared.piece.LastTask.TheVariants.{Never, Asked, Answered}
 use Rattle.worker_split.specs.declared.answers.JobAnswer.TheVariants.{Shown as Showing, NoMore as Ended, Paused as Waiting}
 use Rattle.worker_split.specs.Tasks.{TaskView, IsRightEnd}
-use Rattle.worker_split.specs.Job.{JobView, asked_piece, piece_at, NamesTask, NamesTaskOf, Matches, answered_piece, is_finished, done_before, end_answer, answer_from, reopened_end}
+use Rattle.worker_split.specs.Job.{JobView, asked_piece, piece_at, NamesTask, NamesTaskOf, Matches, answered_piece, is_finished, done_before, end_answer, piece_answer, reopened_end}
 
 -- the orders that are left of a piece: the one that is ready, and those from its kept position on
 abbrev pub end_left : RulesView → Piece → PieceEnd → List (List Sign)
-end_left r p Open = remaining r p.prefix.list (place_of p.kept)
-end_left r p (Ready order) = order.list ∷ remaining r p.prefix.list (place_of p.kept)
+end_left r p Open = remaining r p.prefix.list (search_place p.kept)
+end_left r p (Ready order) = order.list ∷ remaining r p.prefix.list (search_place p.kept)
 end_left r p Finished = []
 
 abbrev pub piece_left : RulesView → Piece → List (List Sign)
@@ -141,23 +141,23 @@ left-asked r budget (p ∷ ps) = ap (λ l. piece_left r p ++ l) (left-asked r bu
 
 -- a right answer leaves what was left
 pub left-answered : (t : TaskView) (p : Piece) (budget : ℕ) (end : End) → t.prefix ≡ p.prefix.list
-    → t.from ≡ place_of p.kept
+    → t.from ≡ search_place p.kept
     → p.end ≡ Open → IsRightEnd t end
     → piece_left t.rules (answered_piece p budget end) ≡ piece_left t.rules p
 left-answered t p budget end prefix from is_open right = by_end end right
     ∙ sym (ap (end_left t.rules p) is_open)
   where
-    own : remaining t.rules t.prefix t.from ≡ remaining t.rules p.prefix.list (place_of p.kept)
+    own : remaining t.rules t.prefix t.from ≡ remaining t.rules p.prefix.list (search_place p.kept)
     own = ap (λ l. remaining t.rules l t.from) prefix ∙ ap (remaining t.rules p.prefix.list) from
 
     by_end : (end : End) → IsRightEnd t end
-        → piece_left t.rules (answered_piece p budget end) ≡ remaining t.rules p.prefix.list (place_of p.kept)
+        → piece_left t.rules (answered_piece p budget end) ≡ remaining t.rules p.prefix.list (search_place p.kept)
     by_end (Found order position) right =
-        ap (λ l. order.list ∷ remaining t.rules l (place_of position)) (sym prefix) ∙ sym right.0 ∙ own
+        ap (λ l. order.list ∷ remaining t.rules l (search_place position)) (sym prefix) ∙ sym right.0 ∙ own
     by_end Done right = sym right ∙ own
     by_end (Paused position) right =
         ap (end_left t.rules (answered_piece p budget (Paused position))) is_open
-        ∙ ap (λ l. remaining t.rules l (place_of position)) (sym prefix) ∙ right.0 ∙ own
+        ∙ ap (λ l. remaining t.rules l (search_place position)) (sym prefix) ∙ right.0 ∙ own
 
 -- the order that is ready is given away
 pub left-shown : (r : RulesView) (front back : List Piece) (p : Piece) (order : OrderView)
@@ -202,10 +202,10 @@ pub record IsShownBy (ps : List Piece) (order : OrderView) (p : Piece) : Type 0 
   pub ready : p.end ≡ Ready order
 
 pub shown_by : (ps : List Piece) (number : ℕ) (order : OrderView)
-    → Showing order ≡ answer_from number (slice_get ps (done_before ps)) → (p : Piece) × IsShownBy ps order p
+    → Showing order ≡ piece_answer number (slice_get ps (done_before ps)) → (p : Piece) × IsShownBy ps order p
 shown_by ps number order e = by_piece (slice_get ps (done_before ps)) refl e
   where
-    by_piece : (o : Option Piece) → slice_get ps (done_before ps) ≡ o → Showing order ≡ answer_from number o
+    by_piece : (o : Option Piece) → slice_get ps (done_before ps) ≡ o → Showing order ≡ piece_answer number o
         → (p : Piece) × IsShownBy ps order p
     by_piece None found e = absurd (cc)
     by_piece (Some p) found e = (p, record { found = found; ready = shown_end number p.end p.last order e })
@@ -216,11 +216,11 @@ pub record IsWaitingFor (ps : List Piece) (budget : ℕ) (p : Piece) : Type 0 wh
   pub last : p.last ≡ Answered budget
 
 pub waiting_for : (ps : List Piece) (number : ℕ)
-    → Waiting ≡ answer_from number (slice_get ps (done_before ps))
+    → Waiting ≡ piece_answer number (slice_get ps (done_before ps))
     → (p : Piece) × (budget : ℕ) × IsWaitingFor ps budget p
 waiting_for ps number e = by_piece (slice_get ps (done_before ps)) refl e
   where
-    by_piece : (o : Option Piece) → slice_get ps (done_before ps) ≡ o → Waiting ≡ answer_from number o
+    by_piece : (o : Option Piece) → slice_get ps (done_before ps) ≡ o → Waiting ≡ piece_answer number o
         → (p : Piece) × (budget : ℕ) × IsWaitingFor ps budget p
     by_piece None found e = absurd (cc)
     by_piece (Some p) found e =
@@ -228,7 +228,7 @@ waiting_for ps number e = by_piece (slice_get ps (done_before ps)) refl e
         (p, parts.1.0, record { found = found; end = parts.0; last = parts.1.1 })
 
 -- "no more" comes only where all pieces are done
-pub all_finished : (ps : List Piece) (number : ℕ) → Ended ≡ answer_from number (slice_get ps (done_before ps))
+pub all_finished : (ps : List Piece) (number : ℕ) → Ended ≡ piece_answer number (slice_get ps (done_before ps))
     → Each (λ p. p.end ≡ Finished) ps
 all_finished ps number e = by_place (slice_get_cases ps (done_before ps)).1
   where
@@ -237,7 +237,7 @@ all_finished ps number e = by_place (slice_get_cases ps (done_before ps)).1
         ⊎ ((length ps ≤ done_before ps) × (slice_get ps (done_before ps) ≡ None)))
         → Each (λ p. p.end ≡ Finished) ps
     by_place (inl h) =
-        let answer = ap (answer_from number) h.2 in
+        let answer = ap (piece_answer number) h.2 in
         let first = first_piece ps h.0 h.2 in
         absurd (true≢false (sym (ended_end number h.0.end h.0.last (e ∙ answer)) ∙ first.unfinished))
     by_place (inr h) = subst (Each (λ p. p.end ≡ Finished)) (take_all (done_before ps) ps h.0)

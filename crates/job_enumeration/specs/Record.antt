@@ -5,7 +5,7 @@ use Rattle.worker_split.specs.declared.outcome.Outcome.{Outcome}
 use Rattle.worker_split.specs.declared.piece.Piece.{Piece}
 use Rattle.worker_split.specs.declared.answers.JobAnswer.{JobAnswer}
 use Rattle.worker_split.specs.Tasks.{IsRightOutcome}
-use Rattle.worker_split.specs.Job.{JobView, opened, asked, piece_at, task_with, Matches, posted, next_answer, after_answer}
+use Rattle.worker_split.specs.Job.{JobView, opened_job, asked, piece_at, task_with, Matches, posted, next_answer, after_answer}
 
 pub data JobEvent : Type 0 where
   -- an ask with its budget
@@ -45,4 +45,4 @@ IsJobRecordFrom j (e ∷ es) = IsLegalEvent j e × IsJobRecordFrom (after_event 
 
 -- a legal record of a job that was opened with these numbers and rules, in at most `most` pieces
 abbrev pub IsJobRecord : ℕ → ℕ → RulesView → ℕ → List JobEvent → Type 0
-IsJobRecord job version r most es = IsJobRecordFrom (opened job version r most) es
+IsJobRecord job version r most es = IsJobRecordFrom (opened_job job version r most) es

@@ -2,7 +2,7 @@
 use Rattle.std.specs.Prelude.{◌≡◌, ℕ, Bool, true, false, List, [], ◌∷◌}
 use Rattle.sign_rules.specs.declared.sign.Sign.{Sign}
 use Rattle.sign_rules.specs.declared.sign.Sign.TheVariants.{Over, Under}
-use Rattle.sign_rules.specs.Signs.{order_of}
+use Rattle.sign_rules.specs.Signs.{bare_order}
 use Rattle.sign_rules.specs.Rules.{RulesView}
 use Rattle.search_cursor.specs.declared.position.Position.{Position}
 use Rattle.worker_split.specs.declared.outcome.Outcome.{Outcome}
@@ -16,7 +16,7 @@ abbrev pub one_pair : RulesView
 one_pair = record { pairs = 1; rules = [] }
 
 abbrev pub position : List Sign → Bool → Position
-position signs past = record { signs = order_of signs; past = past }
+position signs past = record { signs = bare_order signs; past = past }
 
 abbrev pub outcome : Position → ℕ → End → Outcome
 outcome from budget end =
@@ -27,11 +27,11 @@ stopped_first = outcome (position [] false) 1 (Stopped (position (Over ∷ []) f
 
 abbrev pub found_over : Outcome
 found_over =
-    outcome (position (Over ∷ []) false) 3 (Found (order_of (Over ∷ [])) (position (Over ∷ []) true))
+    outcome (position (Over ∷ []) false) 3 (Found (bare_order (Over ∷ [])) (position (Over ∷ []) true))
 
 abbrev pub found_under : Outcome
 found_under =
-    outcome (position (Over ∷ []) true) 2 (Found (order_of (Under ∷ [])) (position (Under ∷ []) true))
+    outcome (position (Over ∷ []) true) 2 (Found (bare_order (Under ∷ [])) (position (Under ∷ []) true))
 
 abbrev pub done_last : Outcome
 done_last = outcome (position (Under ∷ []) true) 2 Done
@@ -40,8 +40,8 @@ done_last = outcome (position (Under ∷ []) true) 2 Done
 abbrev pub worked_record : List JobEvent
 worked_record =
     Ask 1 ∷ Answer (NotReady 1) ∷ Post stopped_first true ∷ Post stopped_first false ∷ Answer Waiting
-    ∷ Ask 3 ∷ Post found_over true ∷ Answer (Showing (order_of (Over ∷ [])))
-    ∷ Ask 2 ∷ Post found_under true ∷ Answer (Showing (order_of (Under ∷ [])))
+    ∷ Ask 3 ∷ Post found_over true ∷ Answer (Showing (bare_order (Over ∷ [])))
+    ∷ Ask 2 ∷ Post found_under true ∷ Answer (Showing (bare_order (Under ∷ [])))
     ∷ Ask 2 ∷ Post done_last true ∷ Answer Ended
     ∷ Ask 5 ∷ Answer Ended ∷ []
 

@@ -20,9 +20,9 @@ use Rattle.script_lang.specs.declared.reply.Reply.{Reply}
 use Rattle.script_lang.specs.declared.reply.Reply.TheVariants as reply
 use Rattle.job_register.specs.declared.session.Event.{Event}
 use Rattle.job_register.specs.declared.session.Event.TheVariants.{Made, Posted}
-use Rattle.job_register.specs.Edits.{Answer, answer}
-use Rattle.job_register.specs.Machine.{State, IsEdit, IsFold, IsReady, IsAnswered, ask_reply, answer_reply, cancel_reply}
-use Rattle.job_register.specs.Legal.{IsStep}
+use Rattle.job_register.specs.Edits.{EditAnswer, answer}
+use Rattle.job_register.specs.Machine.{State, IsEdit, IsFoldReply, IsReady, IsAnswered, ask_reply, answer_reply, cancel_reply}
+use Rattle.job_register.specs.Legal.{IsSessionStep}
 use Rattle.job_register.specs.Counts.{says_running, is_running, running_replies, is_accepted_outcome, accepted_outcomes, peeks_too_early}
 use Rattle.job_register.proofs.JobRecords.{is_quiet, IsQuiet, quiet_answer, told_step}
 
@@ -42,12 +42,12 @@ quiet_reply (reply.Paused job version) q = refl
 quiet_reply (reply.Running job version) q = cc
 quiet_reply (reply.Cancelled job) q = refl
 
-edit_runs : (s t : State) (o : Option Answer) (r : Reply) → IsQuiet o → IsEdit s o r t
+edit_runs : (s t : State) (o : Option EditAnswer) (r : Reply) → IsQuiet o → IsEdit s o r t
     → says_running r ≡ false
 edit_runs s t None r q h = absurd h
 edit_runs s t (Some a) r q h = ap says_running h.0 ∙ quiet_reply a.reply q
 
-fold_runs : (s t : State) (r : Reply) → IsFold s r t → says_running r ≡ false
+fold_runs : (s t : State) (r : Reply) → IsFoldReply s r t → says_running r ≡ false
 fold_runs s t (reply.Job number version faces pairs) h = refl
 fold_runs s t (reply.Refused refusal) h = refl
 fold_runs s t (reply.Version version pieces) h = absurd h
@@ -156,7 +156,7 @@ right_after : RightOutcomesStay → (s : JobsView) (js : List JobsEvent) (x : Ou
 right_after law s [] x right = right
 right_after law s (j ∷ js) x right = right_after law (after_event s j) js x (law.stays s j x right)
 
-pub step_keeps_right : RightOutcomesStay → (s t : State) (e : Event) → IsStep s e t → (x : Outcome)
+pub step_keeps_right : RightOutcomesStay → (s t : State) (e : Event) → IsSessionStep s e t → (x : Outcome)
     → IsRightIn s.jobs x → IsRightIn t.jobs x
 step_keeps_right law s t e h x right =
     let told = told_step s t e h in

@@ -26,7 +26,7 @@ use Rattle.job_register.specs.declared.session.Event.TheVariants.{Made}
 use Rattle.job_register.specs.Edits.{first_journal, current_pattern_of}
 use Rattle.job_register.specs.Machine.{State, first_state, IsJobOn}
 use Rattle.job_register.specs.Layers.{IsLayersOf}
-use Rattle.job_register.specs.Legal.{Lead, IsStep, IsLegal, journal_after}
+use Rattle.job_register.specs.Legal.{Lead, IsSessionStep, IsLegal, journal_after}
 use Rattle.job_register.specs.RecordVersions.{version_in}
 use Rattle.job_register.specs.FoldingRecords.{shown_in, closings_in, closings_past, ShowsLayerOrders, LegalRecordsEnumerate}
 use Rattle.job_register.proofs.Records.{lead_split, lead_journal}

@@ -24,7 +24,7 @@ use Rattle.fold_jobs.specs.declared.folding_job.FoldAnswer.TheVariants.{Shown, N
 use Rattle.fold_jobs.specs.declared.refusal.JobRefusal.{JobRefusal}
 use Rattle.fold_jobs.specs.Limits.{greatest_budget}
 use Rattle.fold_jobs.specs.Machine.{JobsView, job_at, is_full, changed_from, opened_in, ask_answer, after_ask, answer_to, after_answer_to, cancel_answer, after_cancel, MatchesIn, posted_in}
-use Rattle.fold_jobs.specs.Record.{JobsEvent, Open, Ask, SetBudget, Answer as Answering, Cancel as Cancelling, Post, after_event, jobs_after, IsRecordFrom, IsRightPostIn}
+use Rattle.fold_jobs.specs.Record.{JobsEvent, Open, Ask, SetBudget, EditAnswer as Answering, Cancel as Cancelling, Post, after_event, jobs_after, IsRecordFrom, IsRightPostIn}
 use Rattle.fold_jobs.specs.OwnEvents.{own_events_from, shown_by, shown_by_event as shown_by_job, ShownOrder}
 use Rattle.script_lang.specs.declared.block.LoadStop.{LoadStop}
 use Rattle.script_lang.specs.declared.block.LoadStop.TheVariants as stop
@@ -37,9 +37,9 @@ use Rattle.script_lang.specs.Judged.{least_budget, most_budget}
 use Rattle.script_lang.specs.Script.{meets_condition}
 use Rattle.job_register.specs.declared.session.Event.{Event}
 use Rattle.job_register.specs.declared.session.Event.TheVariants.{Made, Posted}
-use Rattle.job_register.specs.Edits.{Answer, current_pattern_of, refusal_answer, version_answer, committed_answer, change_answer, sheet_answer, stop_answer, load_answer, redone_answer, answer}
-use Rattle.job_register.specs.Machine.{State, IsEdit, IsFold, IsAnswered, ask_reply, answer_reply, cancel_reply}
-use Rattle.job_register.specs.Legal.{IsStep, Lead}
+use Rattle.job_register.specs.Edits.{EditAnswer, current_pattern_of, refusal_answer, version_answer, committed_answer, change_answer, sheet_answer, stop_answer, load_answer, redone_answer, answer}
+use Rattle.job_register.specs.Machine.{State, IsEdit, IsFoldReply, IsAnswered, ask_reply, answer_reply, cancel_reply}
+use Rattle.job_register.specs.Legal.{IsSessionStep, Lead}
 use Rattle.job_register.specs.FoldingRecords.{shown_by_event, shown_in, closings_past}
 
 -- what the session's events are to its jobs
@@ -125,11 +125,11 @@ told_as s u t c r next e f told =
 
 -- ---- edits are quiet
 
-abbrev pub IsQuiet : Option Answer → Type 0
+abbrev pub IsQuiet : Option EditAnswer → Type 0
 IsQuiet None = ⊤
 IsQuiet (Some a) = is_quiet a.reply ≡ true
 
-quiet_either : (b : Bool) (x y : Answer) → is_quiet x.reply ≡ true → is_quiet y.reply ≡ true
+quiet_either : (b : Bool) (x y : EditAnswer) → is_quiet x.reply ≡ true → is_quiet y.reply ≡ true
     → is_quiet (if b then x else y).reply ≡ true
 quiet_either true x y h k = h
 quiet_either false x y h k = k
@@ -185,7 +185,7 @@ quiet_answer j (Peek job) = tt
 quiet_answer j (Wait job) = tt
 quiet_answer j (Cancel job) = tt
 
-told_edit : (s t : State) (o : Option Answer) (c : Command) (r : Reply) → IsQuiet o → IsEdit s o r t
+told_edit : (s t : State) (o : Option EditAnswer) (c : Command) (r : Reply) → IsQuiet o → IsEdit s o r t
     → Told s.jobs t.jobs (Made c r)
 told_edit s t None c r q h = absurd h
 told_edit s t (Some a) c r q h =
@@ -351,7 +351,7 @@ tells_opened s c number version faces pairs rules e room = record {
   closes = λ n asked rest more h. h asked;
 }
 
-told_fold : (s t : State) (r : Reply) → IsFold s r t → Told s.jobs t.jobs (Made Fold r)
+told_fold : (s t : State) (r : Reply) → IsFoldReply s r t → Told s.jobs t.jobs (Made Fold r)
 told_fold s t (reply.Job number version faces pairs) h =
     subst (λ (v : JobsView). Told s.jobs v (Made Fold (reply.Job number version faces pairs)))
     (sym (ap (λ (u : State). u.jobs) h.opens)) (
@@ -437,7 +437,7 @@ told_post s x matches right = (
   },
 )
 
-pub told_step : (s t : State) (e : Event) → IsStep s e t → Told s.jobs t.jobs e
+pub told_step : (s t : State) (e : Event) → IsSessionStep s e t → Told s.jobs t.jobs e
 told_step s t (Made c r) h = told_answer s t c r h.0 h.2
 told_step s t (Posted x true) h =
     subst (λ (v : JobsView). Told s.jobs v (Posted x true)) (sym (ap (λ (u : State). u.jobs) h.2))

@@ -18,20 +18,20 @@ use Rattle.fold_jobs.specs.declared.refusal.JobRefusal.{JobRefusal}
 use Rattle.fold_jobs.specs.Machine.{JobsView, job_at, changed_from, changed, ask_answer, after_ask, answer_to, answered, after_answer_to, cancel_answer, after_cancel, posted_in}
 use Rattle.job_register.specs.declared.session.Event.{Event}
 use Rattle.job_register.specs.declared.session.Event.TheVariants.{Made, Posted}
-use Rattle.job_register.specs.Edits.{Answer, answer, first_journal}
-use Rattle.job_register.specs.Machine.{State, first_state, IsEdit, IsFold, IsAnswered, IsTakenIn}
-use Rattle.job_register.specs.Legal.{IsStep, Lead, IsLegal, journal_of, journal_past, journal_from, journal_after, commands_in, refuses, has_refusal}
+use Rattle.job_register.specs.Edits.{EditAnswer, answer, first_journal}
+use Rattle.job_register.specs.Machine.{State, first_state, IsEdit, IsFoldReply, IsAnswered, IsTakenIn}
+use Rattle.job_register.specs.Legal.{IsSessionStep, Lead, IsLegal, journal_of, journal_past, journal_from, journal_after, commands_in, refuses, has_refusal}
 use Rattle.job_register.specs.Text.{event_text, text_from, text_of, text_at, last_text}
 use Rattle.job_register.specs.Kept.{Keeps}
 
 -- ---- the journal after a step
 
-edit_journal : (s t : State) (o : Option Answer) (r : Reply) → IsEdit s o r t
+edit_journal : (s t : State) (o : Option EditAnswer) (r : Reply) → IsEdit s o r t
     → t.journal ≡ journal_of s.journal o
 edit_journal s t None r h = absurd h
 edit_journal s t (Some a) r h = ap (λ (u : State). u.journal) h.1
 
-fold_journal : (s t : State) (r : Reply) → IsFold s r t → t.journal ≡ s.journal
+fold_journal : (s t : State) (r : Reply) → IsFoldReply s r t → t.journal ≡ s.journal
 fold_journal s t (reply.Job number version faces pairs) h = ap (λ (u : State). u.journal) h.opens
 fold_journal s t (reply.Refused refusal) h = ap (λ (u : State). u.journal) h.1
 fold_journal s t (reply.Version version pieces) h = absurd h
@@ -66,7 +66,7 @@ answer_journal s t (Peek job) r h = ap (λ (u : State). u.journal) h.1
 answer_journal s t (Wait job) r h = ap (λ (u : State). u.journal) h.1
 answer_journal s t (Cancel job) r h = ap (λ (u : State). u.journal) h.1
 
-pub step_journal : (s t : State) (e : Event) → IsStep s e t → t.journal ≡ journal_past s.journal e
+pub step_journal : (s t : State) (e : Event) → IsSessionStep s e t → t.journal ≡ journal_past s.journal e
 step_journal s t (Made command r) h = answer_journal s t command r h.2
 step_journal s t (Posted x true) h = ap (λ (u : State). u.journal) h.2
 step_journal s t (Posted x false) h = ap (λ (u : State). u.journal) h.1
@@ -99,11 +99,11 @@ cancel_most : (s : JobsView) (n : ℕ) (r : Result ⊤ JobRefusal) → (after_ca
 cancel_most s n (Err refusal) = refl
 cancel_most s n (Ok done) = changed_most s n _ (job_at s n)
 
-edit_most : (s t : State) (o : Option Answer) (r : Reply) → IsEdit s o r t → t.jobs.most ≡ s.jobs.most
+edit_most : (s t : State) (o : Option EditAnswer) (r : Reply) → IsEdit s o r t → t.jobs.most ≡ s.jobs.most
 edit_most s t None r h = absurd h
 edit_most s t (Some a) r h = ap (λ (u : State). u.jobs.most) h.1
 
-fold_most : (s t : State) (r : Reply) → IsFold s r t → t.jobs.most ≡ s.jobs.most
+fold_most : (s t : State) (r : Reply) → IsFoldReply s r t → t.jobs.most ≡ s.jobs.most
 fold_most s t (reply.Job number version faces pairs) h = ap (λ (u : State). u.jobs.most) h.opens
 fold_most s t (reply.Refused refusal) h = ap (λ (u : State). u.jobs.most) h.1
 fold_most s t (reply.Version version pieces) h = absurd h
@@ -142,7 +142,7 @@ answer_most s t (Wait job) r h =
 answer_most s t (Cancel job) r h =
     ap (λ (u : State). u.jobs.most) h.1 ∙ cancel_most s.jobs job (cancel_answer s.jobs job)
 
-pub step_most : (s t : State) (e : Event) → IsStep s e t → t.jobs.most ≡ s.jobs.most
+pub step_most : (s t : State) (e : Event) → IsSessionStep s e t → t.jobs.most ≡ s.jobs.most
 step_most s t (Made command r) h = answer_most s t command r h.2
 step_most s t (Posted x true) h =
     ap (λ (u : State). u.jobs.most) h.2 ∙ changed_most s.jobs x.job _ (job_at s.jobs x.job)
@@ -210,7 +210,7 @@ text_posted es x accepted =
     text_from-append first_journal es (Posted x accepted ∷ []) ∙ append-nil (text_of es)
 
 -- what a session keeps, it keeps by one more event
-pub keeps_on : (s t : State) (es : List Event) (e : Event) (refused : Bool) → Keeps s refused es → IsStep s e t
+pub keeps_on : (s t : State) (es : List Event) (e : Event) (refused : Bool) → Keeps s refused es → IsSessionStep s e t
     → Keeps t (refused || refuses e) (es ++ e ∷ [])
 keeps_on s t es e refused kept h = record {
   leads = subst (λ most. Lead (first_state most) (es ++ e ∷ []) t) (sym (step_most s t e h))

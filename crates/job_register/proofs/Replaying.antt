@@ -20,7 +20,7 @@ use Rattle.job_register.specs.declared.session.Event.TheVariants.{Made, Posted}
 use Rattle.undo_journal.specs.Versions.{JournalView}
 use Rattle.script_lang.specs.declared.command.Command.{Command}
 use Rattle.script_lang.specs.declared.command.Command.TheVariants.{Add, Delete, Set, Merge, Clear, Sheet, Load, Undo, Redo, List as ListCommand, Check, Bad, Fold, Another, Budget, Peek, Wait, Cancel}
-use Rattle.job_register.specs.Edits.{Answer, answer, first_journal}
+use Rattle.job_register.specs.Edits.{EditAnswer, answer, first_journal}
 use Rattle.job_register.specs.Machine.{State, first_state}
 use Rattle.job_register.specs.Legal.{Lead, commands_in, journal_of}
 use Rattle.job_register.proofs.Records.{step_journal}
@@ -64,7 +64,7 @@ replayed_from s t (Made command reply ∷ es) h =
     (replayed_from h.0 t es h.2) in
     by_answer (answer s.journal command) refl rest
   where
-    by_answer : (o : Option Answer) → answer s.journal command ≡ o
+    by_answer : (o : Option EditAnswer) → answer s.journal command ≡ o
         → edits_in es ≡ record_from (journal_of s.journal o) (commands_in (edits_in es))
         → edits_in (Made command reply ∷ es)
         ≡ record_from s.journal (commands_in (edits_in (Made command reply ∷ es)))

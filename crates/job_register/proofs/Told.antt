@@ -25,7 +25,7 @@ use Rattle.layer_rules.specs.declared.layering.InstanceFault.TheVariants as faul
 use Rattle.layer_rules.specs.Layering.{IsInstanceFault}
 use Rattle.script_lang.specs.declared.reply.Reply.{Reply}
 use Rattle.script_lang.specs.declared.refusal.Refusal.{Refusal}
-use Rattle.job_register.specs.Edits.{Answer, current_pattern_of}
+use Rattle.job_register.specs.Edits.{EditAnswer, current_pattern_of}
 use Rattle.job_register.specs.Machine.{State, IsEdit, IsFoldRefusal, IsTakenIn, refusal_of_layers}
 use Rattle.job_register.specs.Legal.{is_accepted}
 
@@ -39,21 +39,21 @@ pub load_refusal_told : (number : ℕ) (o : Option StoreRefusal) (refusal : Stor
 load_refusal_told number o refusal answer told is =
     subst (λ (t : Option StoreRefusal). IsLoadRefusal number t answer) is told
 
-abbrev pub answer_with : Reply → JournalView → Answer
+abbrev pub answer_with : Reply → JournalView → EditAnswer
 answer_with reply j = record { reply = reply; journal = j }
 
 abbrev pub state_with : JournalView → JobsView → State
 state_with j jobs = record { journal = j; jobs = jobs }
 
-pub edited : (old new : JournalView) (jobs : JobsView) (reply : Reply) (a : Answer)
+pub edited : (old new : JournalView) (jobs : JobsView) (reply : Reply) (a : EditAnswer)
     → answer_with reply new ≡ a → IsEdit (state_with old jobs) (Some a) reply (state_with new jobs)
 edited old new jobs reply a e =
-    (ap (λ (b : Answer). b.reply) e, ap (λ (b : Answer). state_with b.journal jobs) e)
+    (ap (λ (b : EditAnswer). b.reply) e, ap (λ (b : EditAnswer). state_with b.journal jobs) e)
 
-pub edit_told : (old new : JournalView) (jobs : JobsView) (reply : Reply) (o : Option Answer)
+pub edit_told : (old new : JournalView) (jobs : JobsView) (reply : Reply) (o : Option EditAnswer)
     → Some (answer_with reply new) ≡ o → IsEdit (state_with old jobs) o reply (state_with new jobs)
 edit_told old new jobs reply o e =
-    subst (λ (p : Option Answer). IsEdit (state_with old jobs) p reply (state_with new jobs)) e
+    subst (λ (p : Option EditAnswer). IsEdit (state_with old jobs) p reply (state_with new jobs)) e
     (refl, refl)
 
 -- ---- fold

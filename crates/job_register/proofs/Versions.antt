@@ -27,7 +27,7 @@ use Rattle.script_lang.specs.declared.command.Command.TheVariants.{Add, Delete, 
 use Rattle.script_lang.specs.declared.reply.Reply.{Reply}
 use Rattle.job_register.specs.declared.session.Event.{Event}
 use Rattle.job_register.specs.declared.session.Event.TheVariants.{Made, Posted}
-use Rattle.job_register.specs.Edits.{Answer, first_journal, current_pattern_of, committed_answer, change_answer, sheet_answer, stop_answer, load_answer, undo_answer, redone_answer, answer}
+use Rattle.job_register.specs.Edits.{EditAnswer, first_journal, current_pattern_of, committed_answer, change_answer, sheet_answer, stop_answer, load_answer, undo_answer, redone_answer, answer}
 use Rattle.job_register.specs.Machine.{State, first_state, IsEdit, IsAnswered}
 use Rattle.job_register.specs.Legal.{Lead, journal_of, journal_past, journal_from, journal_after, is_refusal}
 use Rattle.job_register.specs.RecordVersions.{is_change, VersionsStay, UndoBringsBack, RedoGoesBack}
@@ -47,10 +47,10 @@ both_steps i j k h h' =
     record { sound = λ sound. h'.sound (h.sound sound); keeps = λ v p e. h'.keeps v p (h.keeps v p e) }
 
 -- the answer is a commit of some pattern, or a refusal that changes nothing
-data IsCommit (j : JournalView) : Answer → Type 0 where
-  commits : (a : Answer) (p : PatternView) → a.journal ≡ committed j p
+data IsCommit (j : JournalView) : EditAnswer → Type 0 where
+  commits : (a : EditAnswer) (p : PatternView) → a.journal ≡ committed j p
       → (IsJournal j → IsJournal (committed j p)) → IsCommit j a
-  refuses : (a : Answer) → a.journal ≡ j → is_refusal a.reply ≡ true → IsCommit j a
+  refuses : (a : EditAnswer) → a.journal ≡ j → is_refusal a.reply ≡ true → IsCommit j a
 
 version_commits : (j : JournalView) (p : PatternView) → IsCommit j (committed_answer j p)
 version_commits j p =
@@ -82,12 +82,12 @@ load_commits j end (Ok p) = stop_commits j end p
 load_commits j end (Err fault) = refuses _ refl refl
 
 -- the command has an answer, which is a commit
-record IsChange (j : JournalView) (o : Option Answer) : Type 0 where
-  answer_is : Answer
+record IsChange (j : JournalView) (o : Option EditAnswer) : Type 0 where
+  answer_is : EditAnswer
   told : o ≡ Some answer_is
   commit : IsCommit j answer_is
 
-change_by : (j : JournalView) (a : Answer) → IsCommit j a → IsChange j (Some a)
+change_by : (j : JournalView) (a : EditAnswer) → IsCommit j a → IsChange j (Some a)
 change_by j a h = record { answer_is = a; told = refl; commit = h }
 
 changes : (j : JournalView) (command : Command) → is_change command ≡ true → IsChange j (answer j command)
@@ -113,14 +113,14 @@ changes j (Peek job) h = absurd (cc)
 changes j (Wait job) h = absurd (cc)
 changes j (Cancel job) h = absurd (cc)
 
-commit_step : (j : JournalView) (a : Answer) → IsCommit j a → IsMove j a.journal
+commit_step : (j : JournalView) (a : EditAnswer) → IsCommit j a → IsMove j a.journal
 commit_step j a (commits a' p e sound) =
     subst (IsMove j) (sym e) (record { sound = sound; keeps = committed_keeps j p })
 commit_step j a (refuses a' e h) = subst (IsMove j) (sym e) (stays j)
 
-change_step : (j : JournalView) (o : Option Answer) → IsChange j o → IsMove j (journal_of j o)
+change_step : (j : JournalView) (o : Option EditAnswer) → IsChange j o → IsMove j (journal_of j o)
 change_step j o h =
-    subst (λ (p : Option Answer). IsMove j (journal_of j p)) (sym h.told) (commit_step j h.answer_is h.commit)
+    subst (λ (p : Option EditAnswer). IsMove j (journal_of j p)) (sym h.told) (commit_step j h.answer_is h.commit)
 
 undo_step : (j : JournalView) → IsMove j (undo_answer j).journal
 undo_step j =
@@ -194,12 +194,12 @@ versions_stay es later version p e =
     ap (λ (j : JournalView). pattern_at j version) (journal_from-append first_journal es later)
     ∙ (steps_of (journal_after es) later).keeps version p e
 
-edit_reply : (s t : State) (o : Option Answer) (a : Answer) (r : Reply) → o ≡ Some a → IsEdit s o r t
+edit_reply : (s t : State) (o : Option EditAnswer) (a : EditAnswer) (r : Reply) → o ≡ Some a → IsEdit s o r t
     → r ≡ a.reply
-edit_reply s t o a r e h = (subst (λ (p : Option Answer). IsEdit s p r t) e h).0
+edit_reply s t o a r e h = (subst (λ (p : Option EditAnswer). IsEdit s p r t) e h).0
 
 -- where the command is about the pattern, its reply is that of its answer
-pub answer_reply : (s t : State) (command : Command) (a : Answer) (r : Reply)
+pub answer_reply : (s t : State) (command : Command) (a : EditAnswer) (r : Reply)
     → answer s.journal command ≡ Some a → IsAnswered s command r t → r ≡ a.reply
 answer_reply s t (Add kind from to) a r e h = edit_reply s t _ a r e h
 answer_reply s t (Delete from to) a r e h = edit_reply s t _ a r e h
@@ -220,7 +220,7 @@ answer_reply s t (Peek job) a r e h = cc
 answer_reply s t (Wait job) a r e h = cc
 answer_reply s t (Cancel job) a r e h = cc
 
-committed_back : (j : JournalView) (a : Answer) → IsJournal j → IsCommit j a → is_refusal a.reply ≡ false
+committed_back : (j : JournalView) (a : EditAnswer) → IsJournal j → IsCommit j a → is_refusal a.reply ≡ false
     → current_pattern (undo_answer a.journal).journal ≡ current_pattern j
 committed_back j a sound (refuses a' e h) accepted = cc
 committed_back j a sound (commits a' p e kept) accepted =

@@ -11,7 +11,7 @@ use Rattle.crease_store.specs.Adding.{add_of}
 use Rattle.crease_store.specs.Changed.{delete_of, set_of, clear_of}
 use Rattle.crease_store.specs.Merged.{merge_of}
 use Rattle.crease_store.specs.Loading.{LoadRefusal, load_of}
-use Rattle.undo_journal.specs.Versions.{JournalView, greatest_version, opened, committed, undone, redone, current_pattern, greatest_of}
+use Rattle.undo_journal.specs.Versions.{JournalView, greatest_version, new_journal, committed, undone, redone, current_pattern, greatest_of}
 use Rattle.script_lang.specs.declared.block.LoadStop.{LoadStop}
 use Rattle.script_lang.specs.declared.block.LoadStop.TheVariants as stop
 use Rattle.script_lang.specs.declared.command.Command.{Command}
@@ -26,10 +26,10 @@ use Rattle.script_lang.specs.Refusals.{line_refusal, store_refusal}
 
 -- version 0 is the square sheet with nothing on it
 unfoldable pub first_journal : JournalView
-first_journal = opened (empty_on square_corners)
+first_journal = new_journal (empty_on square_corners)
 
 -- a reply, and the journal after it
-pub record Answer : Type 0 where
+pub record EditAnswer : Type 0 where
   pub reply : Reply
   pub journal : JournalView
 
@@ -37,53 +37,53 @@ abbrev pub current_pattern_of : JournalView → PatternView
 current_pattern_of j = unwrap_or (current_pattern j) (empty_on square_corners)
 
 -- a refusal changes nothing
-abbrev pub refusal_answer : JournalView → Refusal → Answer
+abbrev pub refusal_answer : JournalView → Refusal → EditAnswer
 refusal_answer j r = record { reply = Refused r; journal = j }
 
 -- the journal has changed, and its current version is told
-abbrev pub version_answer : JournalView → Answer
+abbrev pub version_answer : JournalView → EditAnswer
 version_answer j = record {
   reply = Version j.current (size_of (current_pattern_of j));
   journal = j;
 }
 
 -- the pattern becomes a version, unless the last number is taken
-abbrev pub committed_answer : JournalView → PatternView → Answer
+abbrev pub committed_answer : JournalView → PatternView → EditAnswer
 committed_answer j pattern =
     if nat_eq (greatest_of j) greatest_version then refusal_answer j refusal.Full
     else version_answer (committed j pattern)
 
-abbrev pub change_answer : JournalView → Result PatternView StoreRefusal → Answer
+abbrev pub change_answer : JournalView → Result PatternView StoreRefusal → EditAnswer
 change_answer j (Ok pattern) = committed_answer j pattern
 change_answer j (Err refusal) = refusal_answer j (store_refusal refusal)
 
 -- the new sheet with nothing on it
-abbrev pub sheet_answer : JournalView → Result (List Point) ℕ → Answer
+abbrev pub sheet_answer : JournalView → Result (List Point) ℕ → EditAnswer
 sheet_answer j (Ok corners) = committed_answer j (empty_on corners)
 sheet_answer j (Err corner) = refusal_answer j (refusal.BadSheet corner)
 
 -- how a block that is all added ends
-abbrev pub stop_answer : JournalView → LoadStop → PatternView → Answer
+abbrev pub stop_answer : JournalView → LoadStop → PatternView → EditAnswer
 stop_answer j stop.Ended pattern = committed_answer j pattern
 stop_answer j (stop.Bad number fault) pattern = refusal_answer j (refusal.LoadLine number (cause.Line fault))
 stop_answer j stop.Unended pattern = refusal_answer j refusal.LoadUnended
 
 -- a block is refused by its first line that is not added, else by how it ends
-abbrev pub load_answer : JournalView → LoadStop → Result PatternView LoadRefusal → Answer
+abbrev pub load_answer : JournalView → LoadStop → Result PatternView LoadRefusal → EditAnswer
 load_answer j end (Ok pattern) = stop_answer j end pattern
 load_answer j end (Err refused_line) =
     refusal_answer j (refusal.LoadLine refused_line.number (cause.Add refused_line.refusal))
 
-abbrev pub undo_answer : JournalView → Answer
+abbrev pub undo_answer : JournalView → EditAnswer
 undo_answer j =
     if nat_eq j.current 0 then refusal_answer j refusal.NothingToUndo else version_answer (undone j)
 
-abbrev pub redone_answer : JournalView → Option JournalView → Answer
+abbrev pub redone_answer : JournalView → Option JournalView → EditAnswer
 redone_answer j None = refusal_answer j refusal.NothingToRedo
 redone_answer j (Some next) = version_answer next
 
 -- the answer to a command about the pattern; none to a command about folding jobs
-abbrev pub answer : JournalView → Command → Option Answer
+abbrev pub answer : JournalView → Command → Option EditAnswer
 answer j (Add kind from to) = Some (change_answer j (add_of (current_pattern_of j) kind from to))
 answer j (Delete from to) = Some (change_answer j (delete_of (current_pattern_of j) from to))
 answer j (Set kind from to) = Some (change_answer j (set_of (current_pattern_of j) kind from to))

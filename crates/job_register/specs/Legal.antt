@@ -10,18 +10,18 @@ use Rattle.script_lang.specs.declared.reply.Reply.TheVariants as reply
 use Rattle.script_lang.specs.Script.{meets_condition}
 use Rattle.job_register.specs.declared.session.Event.{Event}
 use Rattle.job_register.specs.declared.session.Event.TheVariants.{Made, Posted}
-use Rattle.job_register.specs.Edits.{Answer, answer, first_journal}
+use Rattle.job_register.specs.Edits.{EditAnswer, answer, first_journal}
 use Rattle.job_register.specs.Machine.{State, first_state, IsReady, IsAnswered, IsTakenIn}
 
 -- one event: a command that meets its conditions and is answered, or an outcome that is posted
-abbrev pub IsStep : State → Event → State → Type 0
-IsStep s (Made command r) t = IsTrue (meets_condition command) × IsReady s command × IsAnswered s command r t
-IsStep s (Posted x accepted) t = IsTakenIn s x accepted t
+abbrev pub IsSessionStep : State → Event → State → Type 0
+IsSessionStep s (Made command r) t = IsTrue (meets_condition command) × IsReady s command × IsAnswered s command r t
+IsSessionStep s (Posted x accepted) t = IsTakenIn s x accepted t
 
 -- the events lead from one state to the other
 abbrev pub Lead : State → List Event → State → Type 0
 Lead s [] t = s ≡ t
-Lead s (e ∷ es) t = (m : State) × IsStep s e m × Lead m es t
+Lead s (e ∷ es) t = (m : State) × IsSessionStep s e m × Lead m es t
 
 -- a record of a session whose jobs may have so many pieces: each reply is the machine's, in the state that the
 -- events before it lead to
@@ -35,7 +35,7 @@ is_accepted (Stranger kept came) = false
 
 -- ---- what the events say by themselves
 
-abbrev pub journal_of : JournalView → Option Answer → JournalView
+abbrev pub journal_of : JournalView → Option EditAnswer → JournalView
 journal_of j None = j
 journal_of j (Some a) = a.journal
 

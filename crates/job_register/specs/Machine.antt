@@ -20,7 +20,7 @@ use Rattle.layer_rules.specs.declared.layering.InstanceFault.TheVariants as faul
 use Rattle.layer_rules.specs.Layering.{LayeringView, IsInstanceFault}
 use Rattle.job_register.specs.declared.session.Event.{Event}
 use Rattle.job_register.specs.declared.session.Event.TheVariants.{Made, Posted}
-use Rattle.job_register.specs.Edits.{Answer, answer, first_journal, current_pattern_of}
+use Rattle.job_register.specs.Edits.{EditAnswer, answer, first_journal, current_pattern_of}
 use Rattle.job_register.specs.Layers.{IsLayersOf}
 
 -- the versions of the pattern, and the folding jobs
@@ -34,7 +34,7 @@ first_state most = record { journal = first_journal; jobs = no_jobs most }
 
 -- ---- commands about the pattern leave the jobs as they are
 
-abbrev pub IsEdit : State → Option Answer → Reply → State → Type 0
+abbrev pub IsEdit : State → Option EditAnswer → Reply → State → Type 0
 IsEdit s None r t = ⊥
 IsEdit s (Some a) r t = (r ≡ a.reply) × (t ≡ record s { journal = a.journal })
 
@@ -67,10 +67,10 @@ pub record IsJobOn (s : State) (number version faces pairs : ℕ) (t : State) : 
   pub pairs_are : pairs ≡ length layers.pairs
   pub opens : t ≡ record s { jobs = opened_in s.jobs version layers.rules }
 
-abbrev pub IsFold : State → Reply → State → Type 0
-IsFold s (reply.Job number version faces pairs) t = IsJobOn s number version faces pairs t
-IsFold s (reply.Refused r) t = IsFoldRefusal s r × (t ≡ s)
-IsFold s r t = ⊥
+abbrev pub IsFoldReply : State → Reply → State → Type 0
+IsFoldReply s (reply.Job number version faces pairs) t = IsJobOn s number version faces pairs t
+IsFoldReply s (reply.Refused r) t = IsFoldRefusal s r × (t ≡ s)
+IsFoldReply s r t = ⊥
 
 -- ---- the other commands about jobs
 
@@ -122,7 +122,7 @@ IsReady s command = ⊤
 
 -- the reply to a command, and the state after it
 abbrev pub IsAnswered : State → Command → Reply → State → Type 0
-IsAnswered s Fold r t = IsFold s r t
+IsAnswered s Fold r t = IsFoldReply s r t
 IsAnswered s (Another number) r t = IsAsk s number r t
 IsAnswered s (Budget budget) r t = IsBudget s budget r t
 IsAnswered s (Peek number) r t = IsShow s number r t

@@ -21,11 +21,11 @@ use Rattle.job_register.specs.declared.session.Event.{Event}
 use Rattle.job_register.specs.declared.session.Event.TheVariants.{Made, Posted}
 use Rattle.undo_journal.specs.Versions.{JournalView, greatest_version, greatest_of}
 use Rattle.crease_store.specs.Changed.{clear_of}
-use Rattle.job_register.specs.Edits.{Answer, first_journal, answer, committed_answer, current_pattern_of}
+use Rattle.job_register.specs.Edits.{EditAnswer, first_journal, answer, committed_answer, current_pattern_of}
 use Rattle.job_register.specs.Legal.{IsLegal, commands_in, journal_of}
 use Rattle.job_register.specs.Text.{text_of}
 
-abbrev pub is_edit_answer : Option Answer → Bool
+abbrev pub is_edit_answer : Option EditAnswer → Bool
 is_edit_answer None = false
 is_edit_answer (Some a) = true
 
@@ -33,7 +33,7 @@ is_edit_answer (Some a) = true
 abbrev pub is_edit : Command → Bool
 is_edit command = is_edit_answer (answer first_journal command)
 
-abbrev pub event_by : Command → Option Answer → List Event
+abbrev pub event_by : Command → Option EditAnswer → List Event
 event_by command None = []
 event_by command (Some a) = Made command a.reply ∷ []
 

@@ -6,7 +6,7 @@ ghost use Rattle.fold_jobs.specs.Limits.{greatest_budget};
 ghost use Rattle.fold_jobs.specs.Machine.{is_full};
 ghost use Rattle.job_register.specs.Edits.{current_pattern_of};
 ghost use Rattle.job_register.specs.Layers.{IsLayersOf};
-ghost use Rattle.job_register.specs.Machine.{IsFold, IsAsk, IsShow, IsCancel, IsBudget, refusal_of_layers, refusal_of_job, answer_reply};
+ghost use Rattle.job_register.specs.Machine.{IsFoldReply, IsAsk, IsShow, IsCancel, IsBudget, refusal_of_layers, refusal_of_job, answer_reply};
 
 use fold_jobs::{FoldAnswer, JobRefusal, Jobs, OpenFault};
 use layer_rules::{InstanceFault, Layering, instance};
@@ -53,7 +53,7 @@ fn open_job(
 ) -> Result<Reply, AllocError>
     requires layers { IsLayersOf (current_pattern_of journal.now) layers.now }
     requires room { IsFalse (is_full jobs.old) }
-    ensures ok { IfOk result (λ reply. IsFold (record { journal = journal.now; jobs = jobs.old }) reply
+    ensures ok { IfOk result (λ reply. IsFoldReply (record { journal = journal.now; jobs = jobs.old }) reply
         (record { journal = journal.now; jobs = jobs.new })) }
     ensures err { OnErr result (jobs.new ≡ jobs.old) }
 {
@@ -80,7 +80,7 @@ pub(crate) fn fold<R: Threads + Sync>(
     journal: &Journal,
     jobs: &mut Jobs,
 ) -> Result<Reply, AllocError>
-    ensures ok { IfOk result (λ reply. IsFold (record { journal = journal.now; jobs = jobs.old }) reply
+    ensures ok { IfOk result (λ reply. IsFoldReply (record { journal = journal.now; jobs = jobs.old }) reply
         (record { journal = journal.now; jobs = jobs.new })) }
     ensures err { OnErr result (jobs.new ≡ jobs.old) }
 {

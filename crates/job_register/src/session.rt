@@ -54,11 +54,11 @@ pub struct Record {
 }
 
 impl Record {
-    ghost use Rattle.job_register.specs.View.{events_of};
+    ghost use Rattle.job_register.specs.View.{record_events};
 
     /// The record in which nothing has happened.
     pub fn new(alloc: Global) -> Record
-        ensures { events_of result ≡ [] }
+        ensures { record_events result ≡ [] }
     {
         Record {
             list: Vec::new(alloc),
@@ -66,7 +66,7 @@ impl Record {
     }
 
     pub fn events(&self) -> &[Event]
-        ensures { result.now ≡ events_of self.now }
+        ensures { result.now ≡ record_events self.now }
     {
         self.list.as_slice()
     }
@@ -84,18 +84,18 @@ pub struct Session {
 }
 
 impl Model for Session {
-    ghost use Rattle.job_register.specs.View.{SessionView, events_of};
+    ghost use Rattle.job_register.specs.View.{SessionView, record_events};
     ghost use Rattle.job_register.specs.Kept.{IsSession};
 
     ghost Value = { SessionView };
 
     ghost view = { λ s. record {
-      events = events_of s.events;
+      events = record_events s.events;
       state = record { journal = s.journal; jobs = s.jobs };
     } };
 
     ghost invariant = { λ s.
-        IsSession (record { journal = s.journal; jobs = s.jobs }) s.refused s.faults (events_of s.events) };
+        IsSession (record { journal = s.journal; jobs = s.jobs }) s.refused s.faults (record_events s.events) };
 }
 
 impl Session {
@@ -105,7 +105,7 @@ impl Session {
     ghost use Rattle.fold_jobs.specs.Machine.{IsRightIn, IsRightWhereLive, IsPosted, MatchesIn, task_in, needed_in};
     ghost use Rattle.fold_jobs.specs.Waiting.{waiting_in};
     ghost use Rattle.undo_journal.specs.Versions.{pattern_at};
-    ghost use Rattle.job_register.specs.View.{events_of};
+    ghost use Rattle.job_register.specs.View.{record_events};
     ghost use Rattle.job_register.specs.Machine.{first_state, IsReady, IsAnswered};
     ghost use Rattle.job_register.specs.Legal.{IsLegal, journal_after, commands_in, has_refusal};
     ghost use Rattle.job_register.specs.Counts.{running_replies, accepted_outcomes, peeks_too_early};
@@ -307,7 +307,7 @@ impl Session {
 
     /// The record so far.
     pub fn events(&self) -> &Record
-        ensures events { events_of result.now ≡ self.now.events }
+        ensures events { record_events result.now ≡ self.now.events }
         ensures legal { IsLegal self.now.state.jobs.most self.now.events }
         ensures enumeration { EnumeratesOrders self.now.state.jobs.most self.now.events }
     {
@@ -317,7 +317,7 @@ impl Session {
 
     /// The whole record.
     pub fn finish(self) -> Record
-        ensures events { events_of result ≡ self.events }
+        ensures events { record_events result ≡ self.events }
         ensures legal { IsLegal self.state.jobs.most self.events }
         ensures enumeration { EnumeratesOrders self.state.jobs.most self.events }
     {

@@ -22,7 +22,7 @@ use Rattle.plane_geometry.specs.SegmentView.{stretch_of}
 use Rattle.isometry_map.specs.declared.folded.CreaseImage.{CreaseImage}
 use Rattle.sign_rules.specs.declared.sign.Sign.{Sign}
 use Rattle.layer_rules.specs.declared.crease_lines.LinedCrease.{LinedCrease}
-use Rattle.layer_rules.specs.CreaseLines.{IsLineOf, IsWithLine, compare_by_line, AreByLine}
+use Rattle.layer_rules.specs.CreaseLines.{IsLineThrough, IsWithLine, compare_by_line, AreByLine}
 use Rattle.layer_rules.proofs.OneLine.{one_line}
 use Rattle.layer_rules.proofs.Ordered.{here, there, either, none}
 
@@ -193,7 +193,7 @@ module _ (lined : List LinedCrease) (l : Line) where
 -- ---- what needs a part in common
 
 module _ (creases : List CreaseImage) (lined near : List LinedCrease) (by : AreByLine creases lined)
-    (c : CreaseImage) (l : Line) (line : IsLineOf c.image l)
+    (c : CreaseImage) (l : Line) (line : IsLineThrough c.image l)
     (on_line : (x : LinedCrease) → Contains near x ↔ (Contains lined x × (x.line ≡ l)))
     (Breaks : CreaseImage → List Sign → Type 0)
     (common : (d : CreaseImage) (signs : List Sign) → Breaks d signs

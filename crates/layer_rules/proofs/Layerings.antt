@@ -18,7 +18,7 @@ use Rattle.layer_rules.specs.declared.layering.InstanceFault.{InstanceFault}
 use Rattle.layer_rules.specs.declared.layering.InstanceFault.TheVariants.{NotConvex, TooManyFaces, Unreached, DoesNotClose, FoldRange, TooManyLines, TooManyPairs, Memory}
 use Rattle.layer_rules.specs.Answer.{HasMemory as HasPairsMemory}
 use Rattle.layer_rules.specs.FacePairs.{HasPairCount, most_pairs}
-use Rattle.layer_rules.specs.Layering.{IsShapeOf, IsShapeFault, IsInstanceFault, fault_of_faces, fault_of_folding, fault_of_pairs}
+use Rattle.layer_rules.specs.Layering.{IsShapeOf, IsFaultBeforePairs, IsInstanceFault, fault_of_faces, fault_of_folding, fault_of_pairs}
 
 -- what `faces` says of a refusal
 record SaysWhy (p : PatternView) (r : Result FaceMapView FaceFault) : Type 0 where
@@ -28,7 +28,7 @@ record SaysWhy (p : PatternView) (r : Result FaceMapView FaceFault) : Type 0 whe
   pub unreached : (f : ℕ) → r ≡ Err (face.Unreached f) → HasMemory r × IsUnreached p f
 
 faces_why : (p : PatternView) (r : Result FaceMapView FaceFault) (fault : FaceFault) → SaysWhy p r → r ≡ Err fault
-    → IsShapeFault p (fault_of_faces fault)
+    → IsFaultBeforePairs p (fault_of_faces fault)
 faces_why p r (face.NotConvex at direction) why same = (why.convex at direction same).1
 faces_why p r (face.TooManyFaces n) why same = (why.many n same).1
 faces_why p r (face.Unreached f) why same = (why.unreached f same).1
@@ -39,7 +39,7 @@ pub no_faces : (p : PatternView) (r : Result FaceMapView FaceFault) (fault : Fac
     ↔ (HasMemory r × IsNotConvexAt p at direction))
     → ((n : ℕ) → (r ≡ Err (face.TooManyFaces n)) ↔ (HasMemory r × AreTooMany p n))
     → ((f : ℕ) → (r ≡ Err (face.Unreached f)) ↔ (HasMemory r × IsUnreached p f)) → r ≡ Err fault
-    → IsShapeFault p (fault_of_faces fault)
+    → IsFaultBeforePairs p (fault_of_faces fault)
 no_faces p r fault convex many unreached same =
     faces_why p r fault (record {
       convex = λ at direction e. (convex at direction).0 e;
@@ -48,13 +48,13 @@ no_faces p r fault convex many unreached same =
     }) same
 
 pub no_folding : (p : PatternView) (m : FaceMapView) (fault : WireFault) → IsFaceMap m p → IsWireFault m fault
-    → IsShapeFault p (fault_of_folding fault)
+    → IsFaultBeforePairs p (fault_of_folding fault)
 no_folding p m (wire.DoesNotClose piece) map h = (m, map, h)
 no_folding p m (wire.FoldRange number) map h = (m, map, h)
 no_folding p m (wire.TooManyLines lines) map h = (m, map, h)
 no_folding p m wire.Memory map h = tt
 
-pub no_shape : (p : PatternView) (fault : InstanceFault) → IsShapeFault p fault → IsInstanceFault p fault
+pub no_shape : (p : PatternView) (fault : InstanceFault) → IsFaultBeforePairs p fault → IsInstanceFault p fault
 no_shape p (NotConvex at direction) h = h
 no_shape p (TooManyFaces faces) h = h
 no_shape p (Unreached number) h = h

@@ -4,25 +4,25 @@ use Rattle.std.specs.Bool.{IsTrue}
 use Rattle.std.proofs.lemmas.Bool.{and_parts}
 use Rattle.surd_number.specs.declared.Sgn.{Sgn}
 use Rattle.surd_number.specs.declared.Sgn.TheVariants.{Zero}
-use Rattle.surd_number.specs.SignLaws.{times_sign}
+use Rattle.surd_number.specs.Number.{times_sign}
 use Rattle.plane_geometry.specs.declared.Point.{Point}
 use Rattle.plane_geometry.specs.declared.Segment.{Segment}
 use Rattle.plane_geometry.specs.declared.Line.{Line}
 use Rattle.plane_geometry.specs.Position.{Position, position_of}
-use Rattle.plane_geometry.specs.Direction.{side_of, is_zero}
+use Rattle.plane_geometry.specs.Direction.{side_of, is_zero, turn_sign}
 use Rattle.plane_geometry.specs.Stretch.{is_in_line, ShareTwoPoints}
 use Rattle.plane_geometry.specs.SegmentView.{lesser_end, direction_number, stretch_of}
 use Rattle.plane_geometry.specs.LineView.{line_number, side_of_line}
-use Rattle.plane_geometry.specs.SideLaws.{turn_sign, order_of, product_by_zero}
+use Rattle.plane_geometry.specs.SideLaws.{order_of, product_by_zero}
 use Rattle.plane_geometry.specs.StretchLaws.{zero_is, ends_order, to_in_line}
 use Rattle.plane_geometry.specs.CommonLaws.{side_modulo, side_from_modulo}
 use Rattle.plane_geometry.specs.CommonPointLaws.{side_on_line, overlapping_is}
 use Rattle.plane_geometry.specs.LineLaws.{line_is}
-use Rattle.layer_rules.specs.CreaseLines.{IsLineOf}
+use Rattle.layer_rules.specs.CreaseLines.{IsLineThrough}
 
 pub line_of_is : (s : Segment) (l : Line) (q : Point) (n : ℕ) → q ≡ lesser_end s → n ≡ direction_number s
     → line_number l ≡ n % 8
-    → ((p : Position) → side_of_line l p ≡ side_of (position_of q) (line_number l) p) → IsLineOf s l
+    → ((p : Position) → side_of_line l p ≡ side_of (position_of q) (line_number l) p) → IsLineThrough s l
 line_of_is s l q n start direction number sides p =
     let few : direction_number s < 16 = omega (arith, s.dir.in_range) in
     let from = position_of (lesser_end s) in
@@ -55,7 +55,7 @@ turned_round : (s u : Segment) → ShareTwoPoints (stretch_of s) (stretch_of u)
     → ShareTwoPoints (stretch_of u) (stretch_of s)
 turned_round s u w = (w.0, w.1, w.2, w.4, w.3, w.6, w.5)
 
-pub one_line : (s u : Segment) (l m : Line) → IsLineOf s l → IsLineOf u m
+pub one_line : (s u : Segment) (l m : Line) → IsLineThrough s l → IsLineThrough u m
     → ShareTwoPoints (stretch_of s) (stretch_of u) → l ≡ m
 one_line s u l m of_s of_u common =
     (line_is l m).1

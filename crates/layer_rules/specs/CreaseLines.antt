@@ -14,13 +14,13 @@ use Rattle.isometry_map.specs.declared.folded.CreaseImage.{CreaseImage}
 use Rattle.layer_rules.specs.declared.crease_lines.LinedCrease.{LinedCrease}
 
 -- the points of the line are just those in line with the segment
-abbrev pub IsLineOf : Segment → Line → Type 0
-IsLineOf s l = (p : Position) → IsOnLine p l ↔ IsTrue (is_in_line p (stretch_of s))
+abbrev pub IsLineThrough : Segment → Line → Type 0
+IsLineThrough s l = (p : Position) → IsOnLine p l ↔ IsTrue (is_in_line p (stretch_of s))
 
 -- the crease with the line of its image
 pub record IsWithLine (c : CreaseImage) (x : LinedCrease) : Type 0 where
   pub crease : x.crease ≡ c
-  pub line : IsLineOf c.image x.line
+  pub line : IsLineThrough c.image x.line
 
 abbrev pub compare_by_line : LinedCrease → LinedCrease → Ordering
 compare_by_line x y = compare_lines x.line y.line

@@ -76,6 +76,6 @@ IsInstanceFault p (TooManyPairs count) = AreTooManyPairs p count
 IsInstanceFault p Memory = ⊤
 
 -- the same without the pairs
-abbrev pub IsShapeFault : PatternView → InstanceFault → Type 0
-IsShapeFault p (TooManyPairs count) = ⊥
-IsShapeFault p fault = IsInstanceFault p fault
+abbrev pub IsFaultBeforePairs : PatternView → InstanceFault → Type 0
+IsFaultBeforePairs p (TooManyPairs count) = ⊥
+IsFaultBeforePairs p fault = IsInstanceFault p fault

@@ -3,7 +3,7 @@
 ghost use Rattle.std.specs.Prelude.{◌≡◌, ◌↔◌, IfOk};
 ghost use Rattle.std.specs.List.{AllZip, Contains};
 ghost use Rattle.std.specs.List.Sorted.{IsSorted};
-ghost use Rattle.layer_rules.specs.CreaseLines.{IsLineOf, IsWithLine, compare_by_line, AreByLine};
+ghost use Rattle.layer_rules.specs.CreaseLines.{IsLineThrough, IsWithLine, compare_by_line, AreByLine};
 
 use isometry_map::CreaseImage;
 use plane_geometry::{Line, Segment};
@@ -18,7 +18,7 @@ pub(crate) struct LinedCrease {
 
 /// The line that a segment lies on.
 pub(crate) fn line_of(s: &Segment) -> Line
-    ensures { IsLineOf s.now result }
+    ensures { IsLineThrough s.now result }
 {
     Line::through(s.from(), s.dir())
 }

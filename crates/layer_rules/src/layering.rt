@@ -11,7 +11,7 @@ ghost use Rattle.sign_rules.specs.Rules.{RulesView, are_rules_on, is_broken, is_
 ghost use Rattle.layer_rules.specs.FacePairs.{IsPairList, most_pairs};
 ghost use Rattle.layer_rules.specs.LayerOrder.{IsConsistent};
 ghost use Rattle.layer_rules.specs.RuleOrder.{compare_rules};
-ghost use Rattle.layer_rules.specs.Layering.{IsLayering, IsInstanceFault, IsShapeOf, IsShapeFault, kinds_of};
+ghost use Rattle.layer_rules.specs.Layering.{IsLayering, IsInstanceFault, IsShapeOf, IsFaultBeforePairs, kinds_of};
 
 use crate::face_pairs::{FacePair, PairsFault, pairs};
 use crate::layer_orders::order_rules;
@@ -195,7 +195,7 @@ fn rules_on(alloc: Global, pairs: usize, rules: Vec<Rule>) -> Result<Arc<Rules>,
 
 /// The folded shape of a pattern, or why it has none.
 fn shape_of(alloc: Global, pattern: &Pattern) -> Result<Folded, InstanceFault>
-    ensures exact { MatchResult result (IsShapeOf pattern.now) (IsShapeFault pattern.now) }
+    ensures exact { MatchResult result (IsShapeOf pattern.now) (IsFaultBeforePairs pattern.now) }
     ensures few { IfOk result (λ shape. length shape.faces ≤ most_faces) }
 {
     let map = faces(alloc, pattern)?;

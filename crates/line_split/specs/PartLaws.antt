@@ -20,7 +20,7 @@ use Rattle.crease_model.specs.declared.Piece.{Piece}
 use Rattle.line_split.specs.MemberLaws.{Member, member, contained, filter_member, member_filter}
 use Rattle.line_split.specs.Points.{is_rising}
 use Rattle.line_split.specs.Parts.{inner_points, piece_on, pieces_between, parts_of}
-pub use Rattle.line_split.specs.Parts.{IsPartEnd, IsPart}
+use Rattle.line_split.specs.Parts.{IsPartEnd, IsPart}
 use Rattle.line_split.specs.PointLaws.{point_order, rising_rest, rising_next, rising_later, rising_from, filter_rising, not_before_itself, not_before_each_other}
 
 -- ---- the segment between two points of one line

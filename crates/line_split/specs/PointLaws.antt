@@ -6,8 +6,7 @@ use Rattle.std.specs.declared.cmp.Ordering.{Ordering}
 use Rattle.std.proofs.lemmas.Bool.{and_parts, and_from, cond_both}
 use Rattle.surd_number.specs.declared.Sgn.{Sgn}
 use Rattle.surd_number.specs.declared.Sgn.TheVariants.{Neg, Zero, Pos}
-use Rattle.surd_number.specs.Number.{ordering_of}
-use Rattle.surd_number.specs.SignLaws.{opposite_sign}
+use Rattle.surd_number.specs.Number.{ordering_of, opposite_sign}
 use Rattle.plane_geometry.specs.declared.Point.{Point}
 use Rattle.plane_geometry.specs.Position.{position_of, compare_positions}
 use Rattle.plane_geometry.specs.Direction.{is_positive, is_negative}

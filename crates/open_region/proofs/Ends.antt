@@ -17,7 +17,7 @@ use Rattle.plane_geometry.specs.SideLaws.{lex_sign, order_of, square_sign, along
 use Rattle.plane_geometry.specs.StretchLaws.{zero_is, positive_is, before_is, ends_order, to_in_line, along_sign}
 use Rattle.plane_geometry.specs.DirectionLaws.{along_from_parts, along_is_multiple}
 use Rattle.open_region.specs.declared.Region.{Region}
-use Rattle.open_region.specs.Region.{offset_of, turned_offset, IsBeyond, IsInRegion}
+use Rattle.open_region.specs.Region.{offset_at, turned_offset, IsBeyond, IsInRegion}
 use Rattle.open_region.specs.Strip.{point_along, IsBetweenEnds}
 use Rattle.open_region.proofs.Edges.{lower_is, less_right_same, left_is_side}
 use Rattle.open_region.proofs.Steps.{some_iff}
@@ -231,7 +231,7 @@ cross_same d p q e =
 
 pub region_same : (r : Region) (p q : Position) → IsSameVector p q → IsInRegion p r → IsInRegion q r
 region_same r p q e h n few =
-    some_iff (λ o. IsBeyond o n p) (λ o. IsBeyond o n q) (offset_of r n)
+    some_iff (λ o. IsBeyond o n p) (λ o. IsBeyond o n q) (offset_at r n)
     (λ o. less_right_same o (cross_of (direction_vector n) p) (cross_of (direction_vector n) q)
     (cross_same (direction_vector n) p q e)) (h n few)
 

@@ -14,7 +14,7 @@ use Rattle.open_region.specs.declared.Region.{Region}
 use Rattle.open_region.specs.declared.edge.Edge.{Edge}
 use Rattle.open_region.specs.Bound.{HoldsAt}
 use Rattle.open_region.specs.EdgeView.{line_offset_of}
-use Rattle.open_region.specs.Region.{edge_at, offset_of, turned_offset, IsBeyond, IsLeftOfLine, IsInRegion}
+use Rattle.open_region.specs.Region.{edge_at, offset_at, turned_offset, IsBeyond, IsLeftOfLine, IsInRegion}
 use Rattle.open_region.specs.Strip.{point_along, origin, strip_bound, IsLevel, HoldsAcross, IsCrossed}
 use Rattle.open_region.proofs.Between.{one_dimension}
 use Rattle.open_region.proofs.Quotients.{less_as, less_by}
@@ -170,7 +170,7 @@ module _ (r : Region) (y : Number) where
   lower k = option_map (limit_of_edge k) (edge_at r (suc k + 8))
 
   upper_iff : (k : ℕ) (x : Number) → k < 7
-      → IfSome (offset_of r (suc k)) (λ o. IsBeyond o (suc k) (record { x = x; y = y }))
+      → IfSome (offset_at r (suc k)) (λ o. IsBeyond o (suc k) (record { x = x; y = y }))
       ↔ IfSome (upper k) (λ u. IsLess x u)
   unfolding limit_of_edge
   upper_iff k x few =
@@ -182,7 +182,7 @@ module _ (r : Region) (y : Number) where
       (rise_product k few)))
 
   lower_iff : (k : ℕ) (x : Number) → k < 7
-      → IfSome (offset_of r (suc k + 8)) (λ o. IsBeyond o (suc k + 8) (record { x = x; y = y }))
+      → IfSome (offset_at r (suc k + 8)) (λ o. IsBeyond o (suc k + 8) (record { x = x; y = y }))
       ↔ IfSome (lower k) (λ l. IsLess l x)
   unfolding limit_of_edge
   lower_iff k x few =
@@ -236,8 +236,8 @@ module _ (r : Region) (y : Number) where
   -- ---- the horizontal lines
 
   level_first : (x : Number)
-      → IfSome (offset_of r 0) (λ o. IsBeyond o 0 (point_along origin 4 y))
-      ↔ IfSome (offset_of r 0) (λ o. IsBeyond o 0 (record { x = x; y = y }))
+      → IfSome (offset_at r 0) (λ o. IsBeyond o 0 (point_along origin 4 y))
+      ↔ IfSome (offset_at r 0) (λ o. IsBeyond o 0 (record { x = x; y = y }))
   level_first x =
       map_iff (λ e. turned_offset 0 (line_offset_of e)) (λ e. turned_offset 0 (line_offset_of e))
       (λ o. IsBeyond o 0 (point_along origin 4 y)) (λ o. IsBeyond o 0 (record { x = x; y = y }))
@@ -251,8 +251,8 @@ module _ (r : Region) (y : Number) where
       (con (whole (pos 1)) ⊗ v1 ⊝ con (whole (pos 0)) ⊗ v0) refl))
 
   level_second : (x : Number)
-      → IfSome (offset_of r 8) (λ o. IsBeyond o 8 (point_along origin 4 y))
-      ↔ IfSome (offset_of r 8) (λ o. IsBeyond o 8 (record { x = x; y = y }))
+      → IfSome (offset_at r 8) (λ o. IsBeyond o 8 (point_along origin 4 y))
+      ↔ IfSome (offset_at r 8) (λ o. IsBeyond o 8 (record { x = x; y = y }))
   level_second x =
       map_iff (λ e. turned_offset 8 (line_offset_of e)) (λ e. turned_offset 8 (line_offset_of e))
       (λ o. IsBeyond o 8 (point_along origin 4 y)) (λ o. IsBeyond o 8 (record { x = x; y = y }))
@@ -268,7 +268,7 @@ module _ (r : Region) (y : Number) where
   -- ---- elimination
 
   abbrev IsLeftAt : Number → ℕ → Type 0
-  IsLeftAt x n = IfSome (offset_of r n) (λ o. IsBeyond o n (record { x = x; y = y }))
+  IsLeftAt x n = IfSome (offset_at r n) (λ o. IsBeyond o n (record { x = x; y = y }))
 
   -- what the bounds of the line of direction n + 1 say
   crossed_at : (n k : ℕ) (o : Option Edge) → k < 7

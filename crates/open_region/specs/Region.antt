@@ -24,8 +24,8 @@ abbrev pub edge_offset_of : ℕ → Edge → Number
 edge_offset_of n e = turned_offset n (line_offset_of e)
 
 -- the 16 offsets of a region: of direction n with the points of its line in that direction, if it has one
-abbrev pub offset_of : Region → ℕ → Option Number
-offset_of r n = option_map (edge_offset_of n) (edge_at r n)
+abbrev pub offset_at : Region → ℕ → Option Number
+offset_at r n = option_map (edge_offset_of n) (edge_at r n)
 
 -- strictly left of the line in direction n of offset o
 abbrev pub IsBeyond : Number → ℕ → Position → Type 0
@@ -45,7 +45,7 @@ IsTighter n e f = IsLess (edge_offset_of n f) (edge_offset_of n e)
 
 -- strictly left of the region's line in direction n, if it has one
 abbrev pub IsLeftOfLine : Position → Region → ℕ → Type 0
-IsLeftOfLine p r n = IfSome (offset_of r n) (λ o. IsBeyond o n p)
+IsLeftOfLine p r n = IfSome (offset_at r n) (λ o. IsBeyond o n p)
 
 abbrev pub IsInRegion : Position → Region → Type 0
 IsInRegion p r = (n : ℕ) → n < 16 → IsLeftOfLine p r n

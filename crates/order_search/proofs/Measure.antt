@@ -4,8 +4,8 @@ use Rattle.std.proofs.lemmas.List.{append-nil}
 use Rattle.sign_rules.specs.declared.sign.Sign.{Sign}
 use Rattle.sign_rules.specs.declared.sign.Sign.TheVariants.{Over, Under}
 use Rattle.sign_rules.specs.Rules.{RulesView, is_consistent}
-use Rattle.search_cursor.specs.Place.{Place}
-use Rattle.order_search.specs.Search.{after}
+use Rattle.search_cursor.specs.Place.{SearchPlace}
+use Rattle.order_search.specs.Search.{right_after}
 use Rattle.order_search.specs.Walking.{before, descended, climbed}
 
 -- the steps below a list that `free` signs still follow
@@ -37,7 +37,7 @@ fewer (Over ∷ common) s t x y (suc pairs) less below =
 fewer (Under ∷ common) s t x y (suc pairs) less below =
     omega (arith, fewer common s t x y pairs less (omega (arith, below)))
 
-abbrev pub place_steps : Place → ℕ → ℕ
+abbrev pub place_steps : SearchPlace → ℕ → ℕ
 place_steps place pairs = steps_left place.signs place.past pairs
 
 at_over : (x : Bool) (free : ℕ) → steps_left (Over ∷ []) x (suc free) ≡ steps_left [] x free + weight free + 2
@@ -75,7 +75,7 @@ pub fewer_descended : (r : RulesView) (s : List Sign) → length s < r.pairs
     → place_steps (descended r s) r.pairs < place_steps (before s) r.pairs
 fewer_descended r s below = first (is_consistent r (s ++ Over ∷ []))
   where
-    second : (u : Bool) → place_steps (cond u (before (s ++ Under ∷ [])) (after s)) r.pairs < place_steps
+    second : (u : Bool) → place_steps (cond u (before (s ++ Under ∷ [])) (right_after s)) r.pairs < place_steps
         (before s) r.pairs
     second true = fewer_down s (Under ∷ []) false false r.pairs
         (λ free. omega (arith, at_under false free, at_start free, at_start (suc free), weight-suc free))
@@ -87,21 +87,21 @@ fewer_descended r s below = first (is_consistent r (s ++ Over ∷ []))
 
     first : (o : Bool)
         → place_steps (cond o (before (s ++ Over ∷ []))
-        (cond (is_consistent r (s ++ Under ∷ [])) (before (s ++ Under ∷ [])) (after s))) r.pairs
+        (cond (is_consistent r (s ++ Under ∷ [])) (before (s ++ Under ∷ [])) (right_after s))) r.pairs
         < place_steps (before s) r.pairs
     first true = fewer_down s (Over ∷ []) false false r.pairs
         (λ free. omega (arith, at_over false free, at_start free, at_start (suc free), weight-suc free)) below
     first false = second (is_consistent r (s ++ Under ∷ []))
 
 pub fewer_climbed : (r : RulesView) (front : List Sign) (sign : Sign) → length front < r.pairs
-    → place_steps (climbed r front sign) r.pairs < place_steps (after (front ++ sign ∷ [])) r.pairs
+    → place_steps (climbed r front sign) r.pairs < place_steps (right_after (front ++ sign ∷ [])) r.pairs
 fewer_climbed r front Under below = fewer_up front (Under ∷ []) true true r.pairs
     (λ free. omega (arith, at_end (suc free), at_under true free)) below
 fewer_climbed r front Over below = turn (is_consistent r (front ++ Under ∷ []))
   where
     turn : (u : Bool) → place_steps
-        (cond u (before (front ++ Under ∷ [])) (after front)) r.pairs < place_steps
-        (after (front ++ Over ∷ [])) r.pairs
+        (cond u (before (front ++ Under ∷ [])) (right_after front)) r.pairs < place_steps
+        (right_after (front ++ Over ∷ [])) r.pairs
     turn true = fewer front (Under ∷ []) (Over ∷ []) false true r.pairs
         (λ free. omega (arith, at_under false free, at_start free, at_over true free, at_end free)) below
     turn false = fewer_up front (Over ∷ []) true true r.pairs

@@ -4,16 +4,16 @@ use Rattle.std.specs.List.{filter}
 use Rattle.std.proofs.lemmas.Bool.{cases_Bool, and_from, and_right}
 use Rattle.sign_rules.specs.declared.sign.Sign.{Sign}
 use Rattle.sign_rules.specs.Rules.{RulesView, is_consistent}
-use Rattle.search_cursor.specs.Place.{Place, is_passed, begins_with}
+use Rattle.search_cursor.specs.Place.{SearchPlace, is_passed, begins_with}
 use Rattle.search_cursor.specs.PlaceLaws.{is_list, is_list-same, not_itself, passed-past, begins_with-split}
 use Rattle.order_search.specs.Lists.{all_lists, orders, open_lists, remaining, lists_between}
-use Rattle.order_search.specs.Search.{after}
+use Rattle.order_search.specs.Search.{right_after}
 use Rattle.order_search.specs.Walking.{before, descended, climbed}
 use Rattle.order_search.specs.ListLaws.{each_of, each_map, filter_same, filter_none, filter_filter, between_add}
 use Rattle.order_search.proofs.AllLists.{orders-all, open_lists-all, one_open, first_left}
 use Rattle.order_search.proofs.Moves.{IsMove, descended-move, climbed-move}
 
-pub record Walked (r : RulesView) (prefix : List Sign) (from to : Place) (units : ℕ) : Type 0 where
+pub record Walked (r : RulesView) (prefix : List Sign) (from to : SearchPlace) (units : ℕ) : Type 0 where
   pub onward : (q : List Sign) → is_passed q from.signs from.past ≡ true → is_passed q to.signs to.past ≡ true
   pub same : remaining r prefix to ≡ remaining r prefix from
   pub count : length (lists_between (open_lists r) prefix from to) ≡ units
@@ -23,7 +23,7 @@ none true true = refl
 none true false = refl
 none false p = refl
 
-pub walked-none : (r : RulesView) (prefix : List Sign) (place : Place) → Walked r prefix place place 0
+pub walked-none : (r : RulesView) (prefix : List Sign) (place : SearchPlace) → Walked r prefix place place 0
 unfolding lists_between
 walked-none r prefix place = record {
   onward = λ q e. e;
@@ -41,7 +41,7 @@ or-false true = refl
 or-false false = refl
 
 -- a move that passes no order leaves the same orders
-same_left : (r : RulesView) (prefix : List Sign) (b c : Place) (own : List Sign → Bool) → IsMove r b c own
+same_left : (r : RulesView) (prefix : List Sign) (b c : SearchPlace) (own : List Sign → Bool) → IsMove r b c own
     → ((q : List Sign) → length q ≡ r.pairs → own q ≡ false) → remaining r prefix c ≡ remaining r prefix b
 unfolding remaining
 same_left r prefix b c own move no_order =
@@ -56,7 +56,7 @@ same_left r prefix b c own move no_order =
     (orders r) (orders-all r))
 
 -- a move behind a walk
-walked-move : (r : RulesView) (prefix : List Sign) (a b c : Place) (own : List Sign → Bool) (n k : ℕ)
+walked-move : (r : RulesView) (prefix : List Sign) (a b c : SearchPlace) (own : List Sign → Bool) (n k : ℕ)
     → Walked r prefix a b n → IsMove r b c own
     → ((q : List Sign) → length q ≡ r.pairs → own q ≡ false)
     → length (lists_between (open_lists r) prefix b c) ≡ k
@@ -78,12 +78,12 @@ walked-move r prefix a b c own n k walked move no_order count = record {
 nothing_new : (b p c : Bool) → c ≡ (p || false) → (b && not p && c) ≡ false
 nothing_new b p c e = ap (λ x. b && not p && x) (e ∙ or-false p) ∙ none b p
 
-pub walked-climbed : (r : RulesView) (prefix : List Sign) (a : Place) (front : List Sign) (sign : Sign)
+pub walked-climbed : (r : RulesView) (prefix : List Sign) (a : SearchPlace) (front : List Sign) (sign : Sign)
     (n : ℕ)
-    → Walked r prefix a (after (front ++ sign ∷ [])) n → Walked r prefix a (climbed r front sign) n
+    → Walked r prefix a (right_after (front ++ sign ∷ [])) n → Walked r prefix a (climbed r front sign) n
 unfolding lists_between
 walked-climbed r prefix a front sign n walked =
-    let b = after (front ++ sign ∷ []) in
+    let b = right_after (front ++ sign ∷ []) in
     let c = climbed r front sign in
     let move = climbed-move r front sign in
     let count : length (lists_between (open_lists r) prefix b c) ≡ 0 = ap length
@@ -103,7 +103,7 @@ one_new b p c true e own =
     let h = own refl in
     and_from _ _ (and_from _ _ h.0 (ap not h.1)) (e ∙ ap (λ x. x || true) h.1)
 
-pub walked-descended : (r : RulesView) (prefix : List Sign) (a : Place) (s : List Sign) (n : ℕ)
+pub walked-descended : (r : RulesView) (prefix : List Sign) (a : SearchPlace) (s : List Sign) (n : ℕ)
     → begins_with prefix s ≡ true → is_consistent r s ≡ true → length s < r.pairs
     → Walked r prefix a (before s) n → Walked r prefix a (descended r s) (n + 1)
 unfolding lists_between
@@ -136,7 +136,7 @@ walked-descended r prefix a s n begins consistent shorter walked =
 -- before an order, that order is the first that is left
 pub found_first : (r : RulesView) (prefix s : List Sign) → begins_with prefix s ≡ true
     → is_consistent r s ≡ true → length s ≡ r.pairs
-    → remaining r prefix (before s) ≡ s ∷ remaining r prefix (after s)
+    → remaining r prefix (before s) ≡ s ∷ remaining r prefix (right_after s)
 unfolding remaining orders
 found_first r prefix s begins consistent whole =
     combined false
@@ -163,9 +163,9 @@ found_first r prefix s begins consistent whole =
         (all_lists r.pairs))
 
 -- passing an order counts no open list
-pub found_counts_none : (r : RulesView) (prefix : List Sign) (a : Place) (s : List Sign) (n : ℕ)
+pub found_counts_none : (r : RulesView) (prefix : List Sign) (a : SearchPlace) (s : List Sign) (n : ℕ)
     → length s ≡ r.pairs
-    → Walked r prefix a (before s) n → length (lists_between (open_lists r) prefix a (after s)) ≡ n
+    → Walked r prefix a (before s) n → length (lists_between (open_lists r) prefix a (right_after s)) ≡ n
 unfolding lists_between
 found_counts_none r prefix a s n whole walked =
     between_add (begins_with prefix) (λ q. is_passed q a.signs a.past) (λ q. is_passed q s false)
@@ -191,7 +191,7 @@ found_counts_none r prefix a s n whole walked =
         (open_lists r) (open_lists-all r))
 
 -- after all that begins with the prefix nothing is left
-pub nothing_left : (r : RulesView) (prefix : List Sign) → remaining r prefix (after prefix) ≡ []
+pub nothing_left : (r : RulesView) (prefix : List Sign) → remaining r prefix (right_after prefix) ≡ []
 unfolding remaining
 nothing_left r prefix =
     filter_none (λ q. begins_with prefix q && not (is_passed q prefix true)) (orders r)

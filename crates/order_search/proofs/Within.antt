@@ -7,10 +7,10 @@ use Rattle.sign_rules.specs.declared.sign.Sign.TheVariants.{Over, Under}
 use Rattle.sign_rules.specs.Rules.{RulesView, is_broken, is_consistent}
 use Rattle.sign_rules.specs.ConsistencyLaws.{consistent-front}
 use Rattle.search_cursor.specs.declared.position.Position.{Position}
-use Rattle.search_cursor.specs.Place.{Place, place_of}
+use Rattle.search_cursor.specs.Place.{SearchPlace, search_place}
 use Rattle.search_cursor.specs.PlaceLaws.{begins_with-longer, begins_with-shorter}
-use Rattle.order_search.specs.Search.{after}
-use Rattle.order_search.specs.Invariant.{IsWithin}
+use Rattle.order_search.specs.Search.{right_after}
+use Rattle.order_search.specs.Invariant.{IsConsistentWithin}
 use Rattle.order_search.specs.Walking.{before, descended, climbed}
 
 pub consistent-length : (r : RulesView) (s : List Sign) → is_consistent r s ≡ true → length s ≤ r.pairs
@@ -19,9 +19,9 @@ consistent-length r s holds =
     leb-true (length s) r.pairs parts.0
 
 pub place_at : (p : Position) (past : Bool) → p.past ≡ past
-    → place_of p ≡ record { signs = p.signs.list; past = past }
+    → search_place p ≡ record { signs = p.signs.list; past = past }
 place_at p past e =
-    let at : Bool → Place = λ x. record { signs = p.signs.list; past = x } in
+    let at : Bool → SearchPlace = λ x. record { signs = p.signs.list; past = x } in
     ap at e
 
 -- a list that is not empty has a last sign
@@ -31,44 +31,44 @@ last_of (sign ∷ []) some = ([], sign, refl)
 last_of (first ∷ second ∷ s) some =
     let l = last_of (second ∷ s) (omega arith) in (first ∷ l.0, l.1, ap (λ t. first ∷ t) l.2)
 
-longer : (r : RulesView) (prefix s : List Sign) (sign : Sign) → IsWithin r prefix s
+longer : (r : RulesView) (prefix s : List Sign) (sign : Sign) → IsConsistentWithin r prefix s
     → is_consistent r (s ++ sign ∷ []) ≡ true
-    → IsWithin r prefix (s ++ sign ∷ [])
+    → IsConsistentWithin r prefix (s ++ sign ∷ [])
 longer r prefix s sign within consistent = record {
   begins = begins_with-longer prefix s (sign ∷ []) within.begins;
   consistent = consistent;
 }
 
-pub within_descended : (r : RulesView) (prefix s : List Sign) → IsWithin r prefix s
-    → IsWithin r prefix (descended r s).signs
+pub within_descended : (r : RulesView) (prefix s : List Sign) → IsConsistentWithin r prefix s
+    → IsConsistentWithin r prefix (descended r s).signs
 within_descended r prefix s within = first (is_consistent r (s ++ Over ∷ [])) refl
   where
     second : (u : Bool) → is_consistent r (s ++ Under ∷ []) ≡ u
-        → IsWithin r prefix (cond u (before (s ++ Under ∷ [])) (after s)).signs
+        → IsConsistentWithin r prefix (cond u (before (s ++ Under ∷ [])) (right_after s)).signs
     second true fits = longer r prefix s Under within fits
     second false no_under = within
 
     first : (o : Bool) → is_consistent r (s ++ Over ∷ []) ≡ o
-        → IsWithin r prefix (cond o (before (s ++ Over ∷ []))
-        (cond (is_consistent r (s ++ Under ∷ [])) (before (s ++ Under ∷ [])) (after s))).signs
+        → IsConsistentWithin r prefix (cond o (before (s ++ Over ∷ []))
+        (cond (is_consistent r (s ++ Under ∷ [])) (before (s ++ Under ∷ [])) (right_after s))).signs
     first true fits = longer r prefix s Over within fits
     first false no_over = second (is_consistent r (s ++ Under ∷ [])) refl
 
-shorter : (r : RulesView) (prefix front : List Sign) (sign : Sign) → IsWithin r prefix (front ++ sign ∷ [])
+shorter : (r : RulesView) (prefix front : List Sign) (sign : Sign) → IsConsistentWithin r prefix (front ++ sign ∷ [])
     → length prefix ≤ length front
-    → IsWithin r prefix front
+    → IsConsistentWithin r prefix front
 shorter r prefix front sign within below = record {
   begins = begins_with-shorter prefix front (sign ∷ []) within.begins below;
   consistent = consistent-front r front (sign ∷ []) within.consistent;
 }
 
 pub within_climbed : (r : RulesView) (prefix front : List Sign) (sign : Sign)
-    → IsWithin r prefix (front ++ sign ∷ [])
-    → length prefix ≤ length front → IsWithin r prefix (climbed r front sign).signs
+    → IsConsistentWithin r prefix (front ++ sign ∷ [])
+    → length prefix ≤ length front → IsConsistentWithin r prefix (climbed r front sign).signs
 within_climbed r prefix front Under within below = shorter r prefix front Under within below
 within_climbed r prefix front Over within below = turn (is_consistent r (front ++ Under ∷ [])) refl
   where
     turn : (u : Bool) → is_consistent r (front ++ Under ∷ []) ≡ u
-        → IsWithin r prefix (cond u (before (front ++ Under ∷ [])) (after front)).signs
+        → IsConsistentWithin r prefix (cond u (before (front ++ Under ∷ [])) (right_after front)).signs
     turn true fits = longer r prefix front Under (shorter r prefix front Over within below) fits
     turn false no_under = shorter r prefix front Over within below

@@ -4,7 +4,7 @@ use Rattle.std.proofs.Common.{zero, suc}
 use Rattle.sign_rules.specs.declared.sign.Sign.{Sign}
 use Rattle.sign_rules.specs.declared.sign.Sign.TheVariants.{Over, Under}
 use Rattle.sign_rules.specs.Rules.{RulesView, is_consistent}
-use Rattle.search_cursor.specs.Place.{Place, is_passed, begins_with}
+use Rattle.search_cursor.specs.Place.{SearchPlace, is_passed, begins_with}
 
 -- the sign lists of a length, in lexicographic order
 unfoldable pub all_lists : ℕ → List (List Sign)
@@ -25,12 +25,12 @@ unfoldable pub open_lists : RulesView → List (List Sign)
 open_lists r = filter (is_consistent r) (shorter_lists r.pairs)
 
 -- the orders that begin with the prefix and do not stand before the place
-unfoldable pub remaining : RulesView → List Sign → Place → List (List Sign)
+unfoldable pub remaining : RulesView → List Sign → SearchPlace → List (List Sign)
 remaining r prefix place =
     filter (λ order. begins_with prefix order && not (is_passed order place.signs place.past)) (orders r)
 
 -- which of the lists begin with the prefix, do not stand before the first place, and stand before the second
-unfoldable pub lists_between : List (List Sign) → List Sign → Place → Place → List (List Sign)
+unfoldable pub lists_between : List (List Sign) → List Sign → SearchPlace → SearchPlace → List (List Sign)
 lists_between lists prefix from to =
     filter (λ q. begins_with prefix q && not (is_passed q from.signs from.past)
     && is_passed q to.signs to.past) lists

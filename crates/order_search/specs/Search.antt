@@ -2,7 +2,7 @@
 use Rattle.std.specs.Prelude.{◌≡◌, ℕ, ◌<◌, ◌≤◌, true, false, List, [], ◌∷◌, length, Option, None, IsSomeAnd}
 use Rattle.sign_rules.specs.declared.sign.Sign.{Sign}
 use Rattle.sign_rules.specs.Rules.{RulesView}
-use Rattle.search_cursor.specs.Place.{Place}
+use Rattle.search_cursor.specs.Place.{SearchPlace}
 use Rattle.order_search.specs.declared.step.Step.{Step}
 use Rattle.order_search.specs.declared.step.Step.TheVariants.{Found, Done, Paused}
 use Rattle.order_search.specs.Lists.{remaining, open_lists, lists_between}
@@ -11,7 +11,7 @@ use Rattle.order_search.specs.Lists.{remaining, open_lists, lists_between}
 pub record SearchView : Type 0 where
   pub rules : RulesView
   pub prefix : List Sign
-  pub place : Place
+  pub place : SearchPlace
   pub order : Option (List Sign)
 
 -- the orders that the search has still to find
@@ -37,16 +37,16 @@ IsCounted old budget Found new = open_passed old new ≤ budget
 IsCounted old budget Done new = open_passed old new ≤ budget
 
 -- right after all that begins with the signs
-abbrev pub after : List Sign → Place
-after signs = record { signs = signs; past = true }
+abbrev pub right_after : List Sign → SearchPlace
+right_after signs = record { signs = signs; past = true }
 
 -- a pause stands right before an open list
-pub record IsBeforeOpen (r : RulesView) (place : Place) : Type 0 where
+pub record IsBeforeOpen (r : RulesView) (place : SearchPlace) : Type 0 where
   pub before : place.past ≡ false
   pub shorter : length place.signs < r.pairs
 
 -- where the search stands after its answer
 abbrev pub IsPlaced : SearchView → Step → SearchView → Type 0
-IsPlaced old Found new = IsSomeAnd new.order (λ order. new.place ≡ after order)
-IsPlaced old Done new = new.place ≡ after old.prefix
+IsPlaced old Found new = IsSomeAnd new.order (λ order. new.place ≡ right_after order)
+IsPlaced old Done new = new.place ≡ right_after old.prefix
 IsPlaced old Paused new = IsBeforeOpen old.rules new.place

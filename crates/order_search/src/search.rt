@@ -1,8 +1,8 @@
 ghost use Rattle.std.specs.Prelude.{◌≡◌, ◌≤◌, IsTrue, IfOk, None, Some, MatchOption};
 ghost use Rattle.std.specs.Arc.{arc_value};
-ghost use Rattle.search_cursor.specs.Place.{place_of};
+ghost use Rattle.search_cursor.specs.Place.{search_place};
 ghost use Rattle.order_search.specs.Search.{IsRight, IsCounted, IsPlaced};
-ghost use Rattle.order_search.specs.Invariant.{IsWithin};
+ghost use Rattle.order_search.specs.Invariant.{IsConsistentWithin};
 
 use crate::step::Step;
 use crate::walking::walk;
@@ -24,7 +24,7 @@ pub struct Search {
 impl Model for Search {
     ghost use Rattle.std.specs.Prelude.{if◌then◌else◌, Some, None};
     ghost use Rattle.std.specs.Arc.{arc_value};
-    ghost use Rattle.search_cursor.specs.Place.{place_of};
+    ghost use Rattle.search_cursor.specs.Place.{search_place};
     ghost use Rattle.order_search.specs.Search.{SearchView};
     ghost use Rattle.order_search.specs.Invariant.{IsSearch};
 
@@ -33,7 +33,7 @@ impl Model for Search {
     ghost view = { λ s. record {
       rules = arc_value s.rules;
       prefix = s.prefix.list;
-      place = place_of s.position;
+      place = search_place s.position;
       order = if s.found then Some s.position.signs.list else None;
     } };
 
@@ -48,11 +48,11 @@ impl Search {
         prefix: &[Sign],
         position: &Position,
     ) -> Result<Search, AllocError>
-        requires { IsWithin (arc_value rules) prefix.now position.now.signs.list }
+        requires { IsConsistentWithin (arc_value rules) prefix.now position.now.signs.list }
         ensures { IfOk result (λ s. s ≡ record {
           rules = arc_value rules;
           prefix = prefix.now;
-          place = place_of position.now;
+          place = search_place position.now;
           order = None;
         }) }
     {
@@ -101,8 +101,8 @@ impl Search {
 
     /// Where the search stands.
     pub fn position(&self) -> &Position
-        ensures place { place_of result.now ≡ self.now.place }
-        ensures within { IsWithin self.now.rules self.now.prefix result.now.signs.list }
+        ensures place { search_place result.now ≡ self.now.place }
+        ensures within { IsConsistentWithin self.now.rules self.now.prefix result.now.signs.list }
     {
         &self.position
     }

@@ -1,9 +1,9 @@
 ghost use Rattle.std.specs.Prelude.{◌≡◌, ◌<◌, ◌≤◌, [], ◌∷◌, ◌++◌, List, length, IsTrue, if◌then◌else◌};
 ghost use Rattle.sign_rules.specs.declared.sign.Sign.{Sign};
 ghost use Rattle.sign_rules.specs.Rules.{is_consistent};
-ghost use Rattle.search_cursor.specs.Place.{place_of};
+ghost use Rattle.search_cursor.specs.Place.{search_place};
 ghost use Rattle.order_search.specs.Invariant.{IsSearch};
-ghost use Rattle.order_search.specs.Walking.{before, descended, climbed, IsWalk};
+ghost use Rattle.order_search.specs.Walking.{before, descended, climbed, IsSearchWalk};
 
 use crate::step::Step;
 use search_cursor::Position;
@@ -14,7 +14,7 @@ use sign_rules::{Order, Rules, Sign};
 pub(crate) fn walk(rules: &Rules, prefix: &[Sign], position: &mut Position, budget: u64) -> Step
     requires { IsSearch rules.now prefix.now position.old.signs }
     ensures search { IsSearch rules.now prefix.now position.new.signs }
-    ensures walk { IsWalk rules.now prefix.now budget (place_of position.old) result (place_of position.new) }
+    ensures walk { IsSearchWalk rules.now prefix.now budget (search_place position.old) result (search_place position.new) }
 {
     let mut units = 0;
     loop {
@@ -41,7 +41,7 @@ fn descend(rules: &Rules, position: &mut Position)
     requires consistent { IsTrue (is_consistent rules.now position.old.signs.list) }
     requires shorter { length position.old.signs.list < rules.now.pairs }
     requires room { rules.now.pairs ≤ position.old.signs.room }
-    ensures place { place_of position.new ≡ descended rules.now position.old.signs.list }
+    ensures place { search_place position.new ≡ descended rules.now position.old.signs.list }
     ensures room { position.new.signs.room ≡ position.old.signs.room }
 {
     let fits = put(rules, &mut position.signs, Sign::Over)
@@ -56,7 +56,7 @@ fn climb(rules: &Rules, position: &mut Position)
     requires past { IsTrue position.old.past }
     requires room { rules.now.pairs ≤ position.old.signs.room }
     ensures place { (front : List Sign) (sign : Sign) → position.old.signs.list ≡ front ++ sign ∷ []
-        → place_of position.new ≡ climbed rules.now front sign }
+        → search_place position.new ≡ climbed rules.now front sign }
     ensures room { position.new.signs.room ≡ position.old.signs.room }
 {
     if let Some(Sign::Over) = position.signs.pop() {

@@ -4,13 +4,13 @@ use Rattle.oriedita_io.specs.Faults.{Rose}
 use Rattle.script_lang.specs.declared.command.Command.{Command}
 use Rattle.script_lang.specs.Script.{commands_of}
 use Rattle.job_register.specs.declared.session.Event.{Event}
-use Rattle.oriedita_cli.specs.Clauses.{IsAnswered, IsInput, ended_status, script_limit}
+use Rattle.oriedita_cli.specs.Clauses.{AreAnswered, IsInput, ended_status, script_limit}
 use Rattle.oriedita_cli.specs.WholeLines.{AreWholeLines}
 use Rattle.oriedita_cli.proofs.Outputs.{ended_below}
 
 -- the end of the bytes was read
 pub all_read : (status : ℕ) (events : List Event) (first : List Command) (bytes : List ℕ) (faults faults' : ℕ)
-    → (script_limit < length bytes → ⊥) → IsAnswered status events (first ++ commands_of bytes)
+    → (script_limit < length bytes → ⊥) → AreAnswered status events (first ++ commands_of bytes)
     → (status ≡ ended_status events) ⊎ ((status ≡ 4) ⊎ (status ≡ 6)) → IsInput status events first bytes faults faults'
 all_read status events first bytes faults faults' short answered ended =
     let low = ended_below events in
@@ -35,7 +35,7 @@ all_read status events first bytes faults faults' short answered ended =
 pub lines_read : (status : ℕ) (events : List Event) (first : List Command) (bytes script : List ℕ)
     (faults faults' : ℕ)
     → (script_limit < length bytes → ⊥) → Rose faults faults' → AreWholeLines script bytes
-    → IsAnswered status events (first ++ commands_of script) → (status ≡ 3) ⊎ ((status ≡ 4) ⊎ (status ≡ 6))
+    → AreAnswered status events (first ++ commands_of script) → (status ≡ 3) ⊎ ((status ≡ 4) ⊎ (status ≡ 6))
     → IsInput status events first bytes faults faults'
 lines_read status events first bytes script faults faults' short rose lines answered ended =
     let late : 3 ≤ status = ⊎_elim (λ e. omega (arith, e))

@@ -6,7 +6,7 @@ use Rattle.job_register.specs.declared.session.Event.{Event}
 use Rattle.oriedita_cli.specs.declared.reading.Reading.TheVariants.{Whole, Cut, Nothing}
 use Rattle.oriedita_cli.specs.declared.opening.Unread.{Unread}
 use Rattle.oriedita_cli.specs.declared.opening.Unread.TheVariants.{Failed, TooLong}
-use Rattle.oriedita_cli.specs.Clauses.{IsAnswered, IsRead, IsRun, IsUnread, ended_status}
+use Rattle.oriedita_cli.specs.Clauses.{AreAnswered, IsRead, IsRun, IsUnread, ended_status}
 use Rattle.oriedita_cli.specs.Samples.{EndsLast, IsSampled}
 use Rattle.oriedita_cli.specs.declared.errands.Errand.{Errand}
 use Rattle.oriedita_cli.specs.declared.errands.Errand.TheVariants.{Script, Sample}
@@ -19,14 +19,14 @@ use Rattle.oriedita_cli.proofs.Unanswered.{ended_early, none_answered, nothing_r
 
 pub whole_is_read : (file : List ℕ → Option (List ℕ)) (path : Option (List ℕ)) (commands : List Command)
     (status : ℕ) (events : List Event) (bytes : List ℕ) (faults faults' : ℕ)
-    → IsScript file path (Whole commands) bytes faults faults' → IsAnswered status events commands
+    → IsScript file path (Whole commands) bytes faults faults' → AreAnswered status events commands
     → (status ≡ ended_status events) ⊎ ((status ≡ 4) ⊎ (status ≡ 6))
     → IsRead file path status events bytes faults faults'
 whole_is_read file path commands status events bytes faults faults' read answered ended = record {
   first = read.first;
   of_file = read.of_file;
   input = all_read status events read.first bytes faults faults' (λ long. omega (arith, long, read.behind.0))
-      (subst (λ (cs : List Command). IsAnswered status events cs) read.behind.1 answered) ended;
+      (subst (λ (cs : List Command). AreAnswered status events cs) read.behind.1 answered) ended;
 }
 
 -- the status of a run whose script a fault cut
@@ -34,8 +34,8 @@ abbrev cut_status : ℕ → ℕ
 cut_status status = if nat_lt status 2 then 3 else status
 
 cut_answered : (b : Bool) (status : ℕ) (events : List Event) (commands : List Command)
-    → nat_lt status 2 ≡ b → IsAnswered status events commands
-    → IsAnswered (if b then 3 else status) events commands
+    → nat_lt status 2 ≡ b → AreAnswered status events commands
+    → AreAnswered (if b then 3 else status) events commands
 cut_answered true status events commands below answered = record {
   all = λ _. answered.all (inl (search rules));
   front = answered.front;
@@ -52,7 +52,7 @@ cut_ended false status events below (inl is) =
 
 pub cut_is_read : (file : List ℕ → Option (List ℕ)) (path : Option (List ℕ)) (commands : List Command)
     (status status' : ℕ) (events events' : List Event) (bytes : List ℕ) (faults faults' : ℕ)
-    → IsScript file path (Cut commands) bytes faults faults' → IsAnswered status events commands
+    → IsScript file path (Cut commands) bytes faults faults' → AreAnswered status events commands
     → (status ≡ ended_status events) ⊎ ((status ≡ 4) ⊎ (status ≡ 6))
     → events' ≡ events → status' ≡ cut_status status
     → IsRead file path status' events' bytes faults faults'
@@ -66,7 +66,7 @@ cut_is_read file path commands status status' events events' bytes faults faults
       input = lines_read (cut_status status) events read.first bytes script faults faults'
           (λ long. omega (arith, long, whole)) read.behind.1 read.behind.3
           (cut_answered (nat_lt status 2) status events _ refl
-          (subst (λ (cs : List Command). IsAnswered status events cs) read.behind.4 answered))
+          (subst (λ (cs : List Command). AreAnswered status events cs) read.behind.4 answered))
           (cut_ended (nat_lt status 2) status events refl ended);
     }))
 

@@ -5,12 +5,12 @@ use Rattle.job_register.specs.declared.session.Event.{Event}
 use Rattle.script_lang.specs.Script.{commands_of}
 use Rattle.program_words.specs.declared.options.Options.{Options}
 use Rattle.program_words.specs.ProgramWords.{Said, Says}
-use Rattle.oriedita_cli.specs.Clauses.{IsAnswered, IsInput, IsUnread, script_limit}
+use Rattle.oriedita_cli.specs.Clauses.{AreAnswered, IsInput, IsUnread, script_limit}
 
 pub none_answered : (status : ℕ) (events : List Event) (commands : List Command) → 2 ≤ status → status ≢ 3
-    → events ≡ [] → IsAnswered status events commands
+    → events ≡ [] → AreAnswered status events commands
 none_answered status events commands late unfailed none =
-    subst (λ es. IsAnswered status es commands) (sym none) (record {
+    subst (λ es. AreAnswered status es commands) (sym none) (record {
       all = λ when. absurd (⊎_elim (λ early. omega (arith, early, late)) unfailed when);
       front = (commands, refl);
     })

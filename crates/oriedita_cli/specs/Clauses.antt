@@ -20,7 +20,7 @@ abbrev pub IsFront : {A : Type 0} → List A → List A → Type 0
 IsFront {A} front whole = (rest : List A) × (whole ≡ front ++ rest)
 
 -- A record of these commands: all of them at 0, 1 and 3, else the first few.
-pub record IsAnswered (status : ℕ) (events : List Event) (commands : List Command) : Type 0 where
+pub record AreAnswered (status : ℕ) (events : List Event) (commands : List Command) : Type 0 where
   pub all : (status < 2) ⊎ (status ≡ 3) → commands_in events ≡ commands
   pub front : IsFront (commands_in events) commands
 
@@ -36,7 +36,7 @@ pub record IsInput (status : ℕ) (events : List Event) (first : List Command) (
   pub cut : status ≡ 3 → AreWholeLines script bytes
   -- the commands of the record are the first ones and those of the script, in order: all of them at 0, 1 and 3, else the
   -- first few
-  pub commands : IsAnswered status events (first ++ commands_of script)
+  pub commands : AreAnswered status events (first ++ commands_of script)
   -- none at 2 and 5
   pub none : (status ≡ 2) ⊎ (status ≡ 5) → events ≡ []
   -- 5 is answered only to too long a script, and to such a script nothing else is, unless memory is refused

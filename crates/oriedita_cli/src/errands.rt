@@ -3,7 +3,7 @@
 ghost use Rattle.std.specs.Prelude.{◌≡◌, ℕ, ◌+◌, ◌-◌, ◌^◌, ◌<◌, ◌≤◌, ◌⊎◌, [], None, MatchResult, take};
 ghost use Rattle.std.specs.Io.KnownBytes.{Appends};
 ghost use Rattle.oriedita_io.specs.Faults.{Rose};
-ghost use Rattle.job_register.specs.View.{events_of};
+ghost use Rattle.job_register.specs.View.{record_events};
 ghost use Rattle.job_register.specs.Counts.{running_replies, accepted_outcomes};
 ghost use Rattle.job_register.specs.FoldingRecords.{EnumeratesOrders};
 ghost use Rattle.job_register.specs.Legal.{IsLegal};
@@ -96,19 +96,19 @@ pub(crate) fn do_errand<R: Threads + Sync, H: Helpers<Folding>, K: Sink>(
     requires errand { IsErrand errand }
     requires given { H.given helpers.old ≡ 0 }
     requires none { (number : ℕ) → H.held helpers.old number ≡ None }
-    ensures legal { IsLegal most (events_of result.events) }
-    ensures enumeration { EnumeratesOrders most (events_of result.events) }
-    ensures done { IsDone errand result.status (events_of result.events) }
-    ensures output { IsOutput result.status (written_text (sample_of errand) (events_of result.events))
+    ensures legal { IsLegal most (record_events result.events) }
+    ensures enumeration { EnumeratesOrders most (record_events result.events) }
+    ensures done { IsDone errand result.status (record_events result.events) }
+    ensures output { IsOutput result.status (written_text (sample_of errand) (record_events result.events))
         (K.taken out.old) (K.taken out.new) (K.finished out.new) }
-    ensures status { (result.status ≡ ended_status (events_of result.events))
+    ensures status { (result.status ≡ ended_status (record_events result.events))
         ⊎ ((result.status ≡ WRITE_FAILED) ⊎ (result.status ≡ NO_MEMORY)) }
     ensures cause { result.status ≡ WRITE_FAILED → Rose (K.faults out.old) (K.faults out.new) }
     ensures faults_stay { K.faults out.old ≤ K.faults out.new }
     // Each reply that no answer is there yet was told so by the helpers, and no outcome came but by its ticket.
     ensures running { H.misses helpers.new < 2 ^ 64 - 1
-        → running_replies (events_of result.events) + H.misses helpers.old ≤ H.misses helpers.new }
-    ensures tickets { accepted_outcomes (events_of result.events)
+        → running_replies (record_events result.events) + H.misses helpers.old ≤ H.misses helpers.new }
+    ensures tickets { accepted_outcomes (record_events result.events)
         ≤ released (H.held helpers.new) (H.given helpers.new) }
 {
     records_enumerate();

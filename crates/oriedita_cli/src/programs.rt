@@ -5,7 +5,7 @@ ghost use Rattle.std.specs.Io.KnownBytes.{Consumes, IsAtEnd};
 ghost use Rattle.std.specs.Process.{exit_status};
 ghost use Rattle.std.specs.Vec.Iter.{into_iter_len};
 ghost use Rattle.oriedita_io.specs.Faults.{Rose};
-ghost use Rattle.job_register.specs.View.{events_of};
+ghost use Rattle.job_register.specs.View.{record_events};
 ghost use Rattle.job_register.specs.FoldingRecords.{EnumeratesOrders};
 ghost use Rattle.job_register.specs.Legal.{IsLegal};
 ghost use Rattle.oriedita_cli.specs.Clauses.{IsOutput, IsRun, ended_status, written_text};
@@ -45,19 +45,19 @@ fn run_told<R: Threads + Wait + Sync, S: Source, O: Opener, K: Sink, G: Gate + S
     out: &mut K,
     gate: &G,
 ) -> Ended
-    ensures legal { IsLegal 1 (events_of result.events) }
-    ensures enumeration { EnumeratesOrders 1 (events_of result.events) }
+    ensures legal { IsLegal 1 (record_events result.events) }
+    ensures enumeration { EnumeratesOrders 1 (record_events result.events) }
     ensures run { (words : List (List ℕ)) × AreWordsOf arguments result.status words
-        × IsOutput result.status (written_text (sample_named words) (events_of result.events))
+        × IsOutput result.status (written_text (sample_named words) (record_events result.events))
         (K.taken out.old) (K.taken out.new) (K.finished out.new)
         × (IsSome (sample_named words) → (script.new ≡ script.old) × (files.new ≡ files.old))
         × (sample_named words ≡ None → result.status < 2 → IsAtEnd (S.left script.new))
         × ((bytes : List ℕ) × Consumes (S.left script.old) (S.left script.new) bytes
         × IsRun (O.file files.old) (sample_named words) (file_named words) result.status
-        (events_of result.events) bytes (O.faults files.old) (O.faults files.new) (S.faults script.old)
+        (record_events result.events) bytes (O.faults files.old) (O.faults files.new) (S.faults script.old)
         (S.faults script.new)) }
     ensures status { result.status ≤ 6 }
-    ensures refusals { result.status < 2 → result.status ≡ ended_status (events_of result.events) }
+    ensures refusals { result.status < 2 → result.status ≡ ended_status (record_events result.events) }
     ensures untouched { result.status ≡ BAD_WORDS
         → (script.new ≡ script.old) × (files.new ≡ files.old) × (out.new ≡ out.old) }
     ensures read_fault { result.status ≡ READ_FAILED → Rose (S.faults script.old) (S.faults script.new)
@@ -97,28 +97,28 @@ pub fn run_arguments<R: Threads + Wait + Sync, S: Source, O: Opener, K: Sink, G:
     gate: &G,
 ) -> Ended
     // The record clause.
-    ensures legal { IsLegal 1 (events_of result.events) }
+    ensures legal { IsLegal 1 (record_events result.events) }
 
     // The enumeration clause: each folding job shows the layer orders of the version that it names.
-    ensures enumeration { EnumeratesOrders 1 (events_of result.events) }
+    ensures enumeration { EnumeratesOrders 1 (record_events result.events) }
 
     // The input and the output clause, for the words that were told.
     ensures run { IfOk arguments (λ told. (words : List (List ℕ)) × AreWordsOf told result.status words
-        × IsOutput result.status (written_text (sample_named words) (events_of result.events))
+        × IsOutput result.status (written_text (sample_named words) (record_events result.events))
         (K.taken out.old) (K.taken out.new) (K.finished out.new)
         × (IsSome (sample_named words) → (script.new ≡ script.old) × (files.new ≡ files.old))
         × (sample_named words ≡ None → result.status < 2 → IsAtEnd (S.left script.new))
         × ((bytes : List ℕ) × Consumes (S.left script.old) (S.left script.new) bytes
         × IsRun (O.file files.old) (sample_named words) (file_named words) result.status
-        (events_of result.events) bytes (O.faults files.old) (O.faults files.new) (S.faults script.old)
+        (record_events result.events) bytes (O.faults files.old) (O.faults files.new) (S.faults script.old)
         (S.faults script.new))) }
     ensures untold { IfErr arguments (λ _.
         (script.new ≡ script.old) × (files.new ≡ files.old) × (out.new ≡ out.old)
-        × (events_of result.events ≡ []) × (result.status ≡ BAD_WORDS ⊎ result.status ≡ NO_MEMORY)) }
+        × (record_events result.events ≡ []) × (result.status ≡ BAD_WORDS ⊎ result.status ≡ NO_MEMORY)) }
 
     // The status clause.
     ensures status { result.status ≤ 6 }
-    ensures refusals { result.status < 2 → result.status ≡ ended_status (events_of result.events) }
+    ensures refusals { result.status < 2 → result.status ≡ ended_status (record_events result.events) }
     ensures untouched { result.status ≡ BAD_WORDS
         → (script.new ≡ script.old) × (files.new ≡ files.old) × (out.new ≡ out.old) }
     ensures read_fault { result.status ≡ READ_FAILED → Rose (S.faults script.old) (S.faults script.new)

@@ -3,7 +3,7 @@
 ghost use Rattle.std.specs.Prelude.{◌≡◌, ◌≢◌, ℕ, ◌<◌, ◌≤◌, ◌⊎◌, List, None, [], map, nat_lt, option_map, string_bytes, if◌then◌else◌, IfSome, IsSome};
 ghost use Rattle.std.specs.Io.KnownBytes.{Consumes, IsAtEnd};
 ghost use Rattle.oriedita_io.specs.Faults.{Rose};
-ghost use Rattle.job_register.specs.View.{events_of};
+ghost use Rattle.job_register.specs.View.{record_events};
 ghost use Rattle.job_register.specs.FoldingRecords.{EnumeratesOrders};
 ghost use Rattle.job_register.specs.Legal.{IsLegal};
 ghost use Rattle.job_register.specs.Text.{text_of};
@@ -50,8 +50,8 @@ pub const NO_MEMORY: u8 = 6;
 // The end of a run that answered no command.
 pub(crate) fn ended_without(alloc: Global, status: u8) -> Ended
     ensures status { result.status ≡ status }
-    ensures events { events_of result.events ≡ [] }
-    ensures legal { IsLegal 1 (events_of result.events) }
+    ensures events { record_events result.events ≡ [] }
+    ensures legal { IsLegal 1 (record_events result.events) }
 {
     Ended {
         status,
@@ -62,9 +62,9 @@ pub(crate) fn ended_without(alloc: Global, status: u8) -> Ended
 // The end of a run whose file could not be read. Its output is nothing, and it is finished.
 fn ended_unopened<K: Sink>(alloc: Global, out: &mut K) -> Ended
     ensures status { (result.status ≡ READ_FAILED) ⊎ (result.status ≡ WRITE_FAILED) }
-    ensures events { events_of result.events ≡ [] }
-    ensures legal { IsLegal 1 (events_of result.events) }
-    ensures output { IsOutput result.status (text_of (events_of result.events)) (K.taken out.old)
+    ensures events { record_events result.events ≡ [] }
+    ensures legal { IsLegal 1 (record_events result.events) }
+    ensures output { IsOutput result.status (text_of (record_events result.events)) (K.taken out.old)
         (K.taken out.new) (K.finished out.new) }
     ensures cause { result.status ≡ WRITE_FAILED → Rose (K.faults out.old) (K.faults out.new) }
     ensures faults_stay { K.faults out.old ≤ K.faults out.new }
@@ -77,13 +77,13 @@ fn ended_unopened<K: Sink>(alloc: Global, out: &mut K) -> Ended
 
 // The end of a run that read no script, for the file.
 fn ended_unread<K: Sink>(alloc: Global, fault: Unread, out: &mut K) -> Ended
-    ensures events { events_of result.events ≡ [] }
-    ensures legal { IsLegal 1 (events_of result.events) }
+    ensures events { record_events result.events ≡ [] }
+    ensures legal { IsLegal 1 (record_events result.events) }
     ensures late { 3 ≤ result.status }
     ensures status { result.status ≤ 6 }
     ensures failed { result.status ≡ READ_FAILED → fault ≡ Unread.Failed }
     ensures long { result.status ≡ TOO_LONG → fault ≡ Unread.TooLong }
-    ensures output { IsOutput result.status (text_of (events_of result.events)) (K.taken out.old)
+    ensures output { IsOutput result.status (text_of (record_events result.events)) (K.taken out.old)
         (K.taken out.new) (K.finished out.new) }
     ensures cause { result.status ≡ WRITE_FAILED → Rose (K.faults out.old) (K.faults out.new) }
     ensures faults_stay { K.faults out.old ≤ K.faults out.new }
@@ -97,7 +97,7 @@ fn ended_unread<K: Sink>(alloc: Global, fault: Unread, out: &mut K) -> Ended
 
 // The end of a run whose script a read fault cut.
 fn cut_short(ended: Ended) -> Ended
-    ensures events { events_of result.events ≡ events_of ended.events }
+    ensures events { record_events result.events ≡ record_events ended.events }
     ensures status { result.status ≡ (if nat_lt ended.status 2 then READ_FAILED else ended.status) }
 {
     let status = if ended.status < 2 {
@@ -114,11 +114,11 @@ fn cut_short(ended: Ended) -> Ended
 // Does the errand in a new session, and searches all it waits for.
 fn do_alone<R: Threads + Sync, K: Sink>(rt: &R, alloc: Global, errand: Errand, out: &mut K) -> Ended
     requires { IsErrand errand }
-    ensures legal { IsLegal 1 (events_of result.events) }
-    ensures done { IsDone errand result.status (events_of result.events) }
-    ensures output { IsOutput result.status (written_text (sample_of errand) (events_of result.events))
+    ensures legal { IsLegal 1 (record_events result.events) }
+    ensures done { IsDone errand result.status (record_events result.events) }
+    ensures output { IsOutput result.status (written_text (sample_of errand) (record_events result.events))
         (K.taken out.old) (K.taken out.new) (K.finished out.new) }
-    ensures status { (result.status ≡ ended_status (events_of result.events))
+    ensures status { (result.status ≡ ended_status (record_events result.events))
         ⊎ ((result.status ≡ WRITE_FAILED) ⊎ (result.status ≡ NO_MEMORY)) }
     ensures cause { result.status ≡ WRITE_FAILED → Rose (K.faults out.old) (K.faults out.new) }
     ensures faults_stay { K.faults out.old ≤ K.faults out.new }
@@ -137,19 +137,19 @@ pub fn run_alone<R: Threads + Sync, S: Source, O: Opener, K: Sink>(
     out: &mut K,
 ) -> Ended
     requires { IfSome options.now.sample IsSample }
-    ensures legal { IsLegal 1 (events_of result.events) }
-    ensures enumeration { EnumeratesOrders 1 (events_of result.events) }
+    ensures legal { IsLegal 1 (record_events result.events) }
+    ensures enumeration { EnumeratesOrders 1 (record_events result.events) }
     ensures input { (bytes : List ℕ) × Consumes (S.left script.old) (S.left script.new) bytes
         × IsRun (O.file files.old) options.now.sample (option_map string_bytes options.now.cp) result.status
-        (events_of result.events) bytes (O.faults files.old) (O.faults files.new) (S.faults script.old)
+        (record_events result.events) bytes (O.faults files.old) (O.faults files.new) (S.faults script.old)
         (S.faults script.new) }
     ensures unread { IsSome options.now.sample → (script.new ≡ script.old) × (files.new ≡ files.old) }
     ensures read_to_its_end { options.now.sample ≡ None → result.status < 2 → IsAtEnd (S.left script.new) }
-    ensures output { IsOutput result.status (written_text options.now.sample (events_of result.events))
+    ensures output { IsOutput result.status (written_text options.now.sample (record_events result.events))
         (K.taken out.old) (K.taken out.new) (K.finished out.new) }
     ensures status { result.status ≤ 6 }
     ensures words { result.status ≢ BAD_WORDS }
-    ensures refusals { result.status < 2 → result.status ≡ ended_status (events_of result.events) }
+    ensures refusals { result.status < 2 → result.status ≡ ended_status (record_events result.events) }
     ensures read_fault { result.status ≡ READ_FAILED → Rose (S.faults script.old) (S.faults script.new)
         ⊎ Rose (O.faults files.old) (O.faults files.new) }
     ensures write_fault { result.status ≡ WRITE_FAILED → Rose (K.faults out.old) (K.faults out.new) }
@@ -179,19 +179,19 @@ fn run_beside<R: Threads + Wait + Sync, S: Source, O: Opener, K: Sink, G: Gate +
 ) -> Ended
     requires workers { options.now.workers ≤ 8 }
     requires sample { IfSome options.now.sample IsSample }
-    ensures legal { IsLegal 1 (events_of result.events) }
-    ensures enumeration { EnumeratesOrders 1 (events_of result.events) }
+    ensures legal { IsLegal 1 (record_events result.events) }
+    ensures enumeration { EnumeratesOrders 1 (record_events result.events) }
     ensures input { (bytes : List ℕ) × Consumes (S.left script.old) (S.left script.new) bytes
         × IsRun (O.file files.old) options.now.sample (option_map string_bytes options.now.cp) result.status
-        (events_of result.events) bytes (O.faults files.old) (O.faults files.new) (S.faults script.old)
+        (record_events result.events) bytes (O.faults files.old) (O.faults files.new) (S.faults script.old)
         (S.faults script.new) }
     ensures unread { IsSome options.now.sample → (script.new ≡ script.old) × (files.new ≡ files.old) }
     ensures read_to_its_end { options.now.sample ≡ None → result.status < 2 → IsAtEnd (S.left script.new) }
-    ensures output { IsOutput result.status (written_text options.now.sample (events_of result.events))
+    ensures output { IsOutput result.status (written_text options.now.sample (record_events result.events))
         (K.taken out.old) (K.taken out.new) (K.finished out.new) }
     ensures status { result.status ≤ 6 }
     ensures words { result.status ≢ BAD_WORDS }
-    ensures refusals { result.status < 2 → result.status ≡ ended_status (events_of result.events) }
+    ensures refusals { result.status < 2 → result.status ≡ ended_status (record_events result.events) }
     ensures read_fault { result.status ≡ READ_FAILED → Rose (S.faults script.old) (S.faults script.new)
         ⊎ Rose (O.faults files.old) (O.faults files.new) }
     ensures write_fault { result.status ≡ WRITE_FAILED → Rose (K.faults out.old) (K.faults out.new) }
@@ -233,15 +233,15 @@ pub fn run<R: Threads + Wait + Sync, S: Source, O: Opener, K: Sink, G: Gate + Sy
     gate: &G,
 ) -> Ended
     // The record clause.
-    ensures legal { IsLegal 1 (events_of result.events) }
+    ensures legal { IsLegal 1 (record_events result.events) }
 
     // The enumeration clause: each folding job shows the layer orders of the version that it names.
-    ensures enumeration { EnumeratesOrders 1 (events_of result.events) }
+    ensures enumeration { EnumeratesOrders 1 (record_events result.events) }
 
     // The input clause.
     ensures input { (bytes : List ℕ) × Consumes (S.left script.old) (S.left script.new) bytes
         × IsRun (O.file files.old) (sample_named (map string_bytes words.now))
-        (file_named (map string_bytes words.now)) result.status (events_of result.events) bytes
+        (file_named (map string_bytes words.now)) result.status (record_events result.events) bytes
         (O.faults files.old) (O.faults files.new) (S.faults script.old) (S.faults script.new) }
     ensures unread { IsSome (sample_named (map string_bytes words.now))
         → (script.new ≡ script.old) × (files.new ≡ files.old) }
@@ -250,12 +250,12 @@ pub fn run<R: Threads + Wait + Sync, S: Source, O: Opener, K: Sink, G: Gate + Sy
 
     // The output clause.
     ensures output { IsOutput result.status
-        (written_text (sample_named (map string_bytes words.now)) (events_of result.events))
+        (written_text (sample_named (map string_bytes words.now)) (record_events result.events))
         (K.taken out.old) (K.taken out.new) (K.finished out.new) }
 
     // The status clause.
     ensures status { result.status ≤ 6 }
-    ensures refusals { result.status < 2 → result.status ≡ ended_status (events_of result.events) }
+    ensures refusals { result.status < 2 → result.status ≡ ended_status (record_events result.events) }
     ensures bad_words { result.status ≡ BAD_WORDS → said_of (map string_bytes words.now) ≡ None }
     ensures refused { said_of (map string_bytes words.now) ≡ None
         → (result.status ≡ BAD_WORDS) ⊎ (result.status ≡ NO_MEMORY) }

@@ -4,12 +4,12 @@ ghost use Rattle.std.specs.Prelude.{◌≡◌, ℕ, ◌+◌, ◌-◌, ◌^◌, �
 ghost use Rattle.std.specs.Io.KnownBytes.{Keeps};
 ghost use Rattle.oriedita_io.specs.Faults.{Rose};
 ghost use Rattle.oriedita_io.specs.Told.{Tells};
-ghost use Rattle.job_register.specs.View.{events_of};
+ghost use Rattle.job_register.specs.View.{record_events};
 ghost use Rattle.job_register.specs.Counts.{running_replies, accepted_outcomes};
 ghost use Rattle.job_register.specs.FoldingRecords.{EnumeratesOrders};
 ghost use Rattle.job_register.specs.Legal.{IsLegal};
 ghost use Rattle.job_register.specs.Text.{text_of};
-ghost use Rattle.oriedita_cli.specs.Clauses.{IsAnswered, IsOutput, ended_status};
+ghost use Rattle.oriedita_cli.specs.Clauses.{AreAnswered, IsOutput, ended_status};
 ghost use Rattle.oriedita_cli.specs.Tickets.{released};
 
 use crate::errands::{Errand, do_errand};
@@ -25,7 +25,7 @@ use task_board::Helpers;
 
 // The end of a run whose commands were all answered, and their replies written.
 pub(crate) fn finish<K: Sink>(session: Session, out: &mut K) -> Ended
-    ensures events { events_of result.events ≡ session.events }
+    ensures events { record_events result.events ≡ session.events }
     ensures legal { IsLegal session.state.jobs.most session.events }
     ensures bytes { Keeps (K.taken out.old) (K.taken out.new) }
     ensures status { (result.status ≡ ended_status session.events) ⊎ (result.status ≡ WRITE_FAILED) }
@@ -52,7 +52,7 @@ pub(crate) fn finish<K: Sink>(session: Session, out: &mut K) -> Ended
 
 // The end of a run whose answers stopped.
 pub(crate) fn stopped(session: Session, stop: Stop) -> Ended
-    ensures events { events_of result.events ≡ session.events }
+    ensures events { record_events result.events ≡ session.events }
     ensures legal { IsLegal session.state.jobs.most session.events }
     ensures status { (result.status ≡ WRITE_FAILED) ⊎ (result.status ≡ NO_MEMORY) }
     ensures write { result.status ≡ WRITE_FAILED → stop ≡ Stop.Write }
@@ -80,19 +80,19 @@ pub fn session<R: Threads + Sync, H: Helpers<Folding>, K: Sink>(
     requires most { most ≡ 1 }
     requires given { H.given helpers.old ≡ 0 }
     requires none { (number : ℕ) → H.held helpers.old number ≡ None }
-    ensures legal { IsLegal most (events_of result.events) }
-    ensures enumeration { EnumeratesOrders most (events_of result.events) }
-    ensures input { IsAnswered result.status (events_of result.events) commands }
-    ensures output { IsOutput result.status (text_of (events_of result.events)) (K.taken out.old)
+    ensures legal { IsLegal most (record_events result.events) }
+    ensures enumeration { EnumeratesOrders most (record_events result.events) }
+    ensures input { AreAnswered result.status (record_events result.events) commands }
+    ensures output { IsOutput result.status (text_of (record_events result.events)) (K.taken out.old)
         (K.taken out.new) (K.finished out.new) }
-    ensures status { (result.status ≡ ended_status (events_of result.events))
+    ensures status { (result.status ≡ ended_status (record_events result.events))
         ⊎ ((result.status ≡ WRITE_FAILED) ⊎ (result.status ≡ NO_MEMORY)) }
     ensures cause { result.status ≡ WRITE_FAILED → Rose (K.faults out.old) (K.faults out.new) }
     ensures faults_stay { K.faults out.old ≤ K.faults out.new }
     // Each reply that no answer is there yet was told so by the helpers, and no outcome came but by its ticket.
     ensures running { H.misses helpers.new < 2 ^ 64 - 1
-        → running_replies (events_of result.events) + H.misses helpers.old ≤ H.misses helpers.new }
-    ensures tickets { accepted_outcomes (events_of result.events)
+        → running_replies (record_events result.events) + H.misses helpers.old ≤ H.misses helpers.new }
+    ensures tickets { accepted_outcomes (record_events result.events)
         ≤ released (H.held helpers.new) (H.given helpers.new) }
 {
     do_errand(rt, alloc, most, Errand::Script(commands), helpers, out)

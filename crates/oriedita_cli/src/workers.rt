@@ -2,7 +2,7 @@
 
 ghost use Rattle.std.specs.Prelude.{◌≡◌, ◌+◌, ◌<◌, ◌≤◌, ◌⊎◌, IfSome};
 ghost use Rattle.oriedita_io.specs.Faults.{Rose};
-ghost use Rattle.job_register.specs.View.{events_of};
+ghost use Rattle.job_register.specs.View.{record_events};
 ghost use Rattle.job_register.specs.Legal.{IsLegal};
 ghost use Rattle.oriedita_cli.specs.Clauses.{IsOutput, ended_status, written_text};
 ghost use Rattle.oriedita_cli.specs.Errands.{IsDone, IsErrand, sample_of};
@@ -34,12 +34,12 @@ fn own<L: Ledger, R: Threads + Wait + Sync, K: Sink>(
     out: &mut K,
 ) -> Ended
     requires errand { IfSome owner.old (λ o. IsErrand o.errand) }
-    ensures legal { IsLegal 1 (events_of result.events) }
-    ensures done { IfSome owner.old (λ o. IsDone o.errand result.status (events_of result.events)) }
+    ensures legal { IsLegal 1 (record_events result.events) }
+    ensures done { IfSome owner.old (λ o. IsDone o.errand result.status (record_events result.events)) }
     ensures output { IfSome owner.old (λ o. IsOutput result.status
-        (written_text (sample_of o.errand) (events_of result.events)) (K.taken out.old) (K.taken out.new)
+        (written_text (sample_of o.errand) (record_events result.events)) (K.taken out.old) (K.taken out.new)
         (K.finished out.new)) }
-    ensures status { (result.status ≡ ended_status (events_of result.events))
+    ensures status { (result.status ≡ ended_status (record_events result.events))
         ⊎ ((result.status ≡ WRITE_FAILED) ⊎ (result.status ≡ NO_MEMORY)) }
     ensures cause { result.status ≡ WRITE_FAILED → Rose (K.faults out.old) (K.faults out.new) }
     ensures faults_stay { K.faults out.old ≤ K.faults out.new }
@@ -86,11 +86,11 @@ fn run_over_board<L: Ledger + Send + Sync, R: Threads + Wait + Sync, G: Gate + S
     requires seats { blank.parts ≡ seats }
     requires range { (0 < seats) × (seats ≤ 9) }
     requires errand { IsErrand errand }
-    ensures legal { IsLegal 1 (events_of result.events) }
-    ensures done { IsDone errand result.status (events_of result.events) }
-    ensures output { IsOutput result.status (written_text (sample_of errand) (events_of result.events))
+    ensures legal { IsLegal 1 (record_events result.events) }
+    ensures done { IsDone errand result.status (record_events result.events) }
+    ensures output { IsOutput result.status (written_text (sample_of errand) (record_events result.events))
         (K.taken out.old) (K.taken out.new) (K.finished out.new) }
-    ensures status { (result.status ≡ ended_status (events_of result.events))
+    ensures status { (result.status ≡ ended_status (record_events result.events))
         ⊎ ((result.status ≡ WRITE_FAILED) ⊎ (result.status ≡ NO_MEMORY)) }
     ensures cause { result.status ≡ WRITE_FAILED → Rose (K.faults out.old) (K.faults out.new) }
     ensures faults_stay { K.faults out.old ≤ K.faults out.new }
@@ -128,11 +128,11 @@ pub(crate) fn run_beside_workers<R: Threads + Wait + Sync, G: Gate + Sync, K: Si
 ) -> Ended
     requires workers { workers ≤ 8 }
     requires errand { IsErrand errand }
-    ensures legal { IsLegal 1 (events_of result.events) }
-    ensures done { IsDone errand result.status (events_of result.events) }
-    ensures output { IsOutput result.status (written_text (sample_of errand) (events_of result.events))
+    ensures legal { IsLegal 1 (record_events result.events) }
+    ensures done { IsDone errand result.status (record_events result.events) }
+    ensures output { IsOutput result.status (written_text (sample_of errand) (record_events result.events))
         (K.taken out.old) (K.taken out.new) (K.finished out.new) }
-    ensures status { (result.status ≡ ended_status (events_of result.events))
+    ensures status { (result.status ≡ ended_status (record_events result.events))
         ⊎ ((result.status ≡ WRITE_FAILED) ⊎ (result.status ≡ NO_MEMORY)) }
     ensures cause { result.status ≡ WRITE_FAILED → Rose (K.faults out.old) (K.faults out.new) }
     ensures faults_stay { K.faults out.old ≤ K.faults out.new }

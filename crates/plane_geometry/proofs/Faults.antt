@@ -15,7 +15,7 @@ use Rattle.plane_geometry.specs.SegmentView.{lesser_end, greater_end}
 use Rattle.plane_geometry.specs.SideLaws.{order_of, order_self, order_turned}
 use Rattle.plane_geometry.specs.StretchLaws.{before_is}
 use Rattle.plane_geometry.specs.SegmentLaws.{point_is, no_direction_back}
-use Rattle.surd_number.specs.SignLaws.{opposite_sign}
+use Rattle.surd_number.specs.Number.{opposite_sign}
 
 abbrev is_before : Point → Point → Bool
 is_before p q = is_lt (compare_positions (position_of p) (position_of q))

@@ -5,9 +5,9 @@ use Rattle.std.proofs.lemmas.Bool.{cases_lt, lt-ltb, ltb-true, eqb-false, falseâ
 use Rattle.surd_number.specs.declared.Surd.{Surd}
 use Rattle.surd_number.specs.declared.Sgn.{Sgn}
 use Rattle.surd_number.specs.declared.Sgn.TheVariants.{Neg, Zero, Pos}
-use Rattle.surd_number.specs.Number.{IsSame, difference_of, negative_of, sign_of, unit_inverse_of}
+use Rattle.surd_number.specs.Number.{IsSame, difference_of, negative_of, sign_of, unit_inverse_of, opposite_sign}
 use Rattle.surd_number.specs.NumberLaws.{difference_from_same, IsSame-trans, IsSame-sym}
-use Rattle.surd_number.specs.SignLaws.{opposite_sign, zero_sign_of, sign_of-same, sign_of-negative}
+use Rattle.surd_number.specs.SignLaws.{zero_sign_of, sign_of-same, sign_of-negative}
 use Rattle.surd_number.specs.Value.{number_of}
 use Rattle.surd_number.specs.Exact.{surd_of}
 use Rattle.surd_number.specs.ExactLaws.{surd_of-is, surd_of-value}

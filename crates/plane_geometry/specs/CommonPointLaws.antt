@@ -3,16 +3,16 @@ use Rattle.std.proofs.Common.{◌≡◌, ◌≢◌, ◌↔◌, ℕ, Bool, true, 
 use Rattle.std.proofs.lemmas.Bool.{false≢true, and_parts, or_cases, and_from, or_left, or_right, not-true, not_from_false, false_from_ne_true, both_ways}
 use Rattle.surd_number.specs.declared.Sgn.{Sgn}
 use Rattle.surd_number.specs.declared.Sgn.TheVariants.{Neg, Zero, Pos}
-use Rattle.surd_number.specs.Number.{Number, IsSame, whole, sum_of, difference_of, product_of, negative_of, half_of, sign_of}
+use Rattle.surd_number.specs.Number.{Number, IsSame, whole, sum_of, difference_of, product_of, negative_of, half_of, sign_of, opposite_sign, times_sign}
 use Rattle.surd_number.specs.RingTool.{◌⊕◌, ◌⊝◌, ◌⊗◌, ⊖◌, con, halved, v0, v1, v2, v3, v4, v5}
 use Rattle.surd_number.specs.NumberLaws.{number_ring, number_ring_from}
 use Rattle.std.specs.Ordering.{is_lt}
 use Rattle.plane_geometry.specs.Position.{Position, vector_of, cross_of, dot_of, compare_positions, is_same_position}
-use Rattle.plane_geometry.specs.Direction.{direction_vector, side_of, is_positive, is_negative, is_zero, is_along}
+use Rattle.plane_geometry.specs.Direction.{direction_vector, side_of, is_positive, is_negative, is_zero, is_along, turn_sign}
 use Rattle.plane_geometry.specs.Stored.{IsStretch}
 use Rattle.plane_geometry.specs.Stretch.{Stretch, is_apart, is_between, is_end, is_on, is_in_line, is_parted, is_crossing, is_touching, ends_at_ends, has_same_ends, meets_at_ends, is_overlapping, ShareAPoint, MeetAtEnds, ShareTwoPoints}
-use Rattle.surd_number.specs.SignLaws.{opposite_sign, times_sign, sign_of-same, sign_of-negative}
-use Rattle.plane_geometry.specs.SideLaws.{then_sign, may_sum, lex_sign, order_of, order_self, order_turned, order_chain, side_from, side_same, square_sign, along_lex, along_cross, turn_sign, product_by_zero, product_by_pos}
+use Rattle.surd_number.specs.SignLaws.{sign_of-same, sign_of-negative}
+use Rattle.plane_geometry.specs.SideLaws.{then_sign, may_sum, lex_sign, order_of, order_self, order_turned, order_chain, side_from, side_same, square_sign, along_lex, along_cross, product_by_zero, product_by_pos}
 use Rattle.plane_geometry.specs.CrossLaws.{turn_inverse}
 use Rattle.plane_geometry.specs.Common.{meeting_point}
 use Rattle.plane_geometry.specs.MeetLaws.{side_from_offset, meets_first, meets_second}

@@ -2,14 +2,13 @@
 use Rattle.std.proofs.Common.{◌≡◌, ◌≢◌, ℕ, zero, suc, ◌-◌, ◌<◌, Bool, true, false, cond, not, ◌||◌, ltb, ◌⊎◌, inl, inr, [], ◌∷◌, pos, refl, sym, ap, subst, ◌∙◌, arith}
 use Rattle.std.proofs.lemmas.Bool.{cases_order, lt-ltb, agree_below, agree_below_at}
 use Rattle.surd_number.specs.declared.Sgn.TheVariants.{Zero}
-use Rattle.surd_number.specs.Number.{Number, IsSame, whole, difference_of, product_of, negative_of, sign_of, unit_of, unit_inverse_of}
+use Rattle.surd_number.specs.Number.{Number, IsSame, whole, difference_of, product_of, negative_of, sign_of, unit_of, unit_inverse_of, opposite_sign}
 use Rattle.surd_number.specs.RingTool.{◌⊝◌, ◌⊗◌, ⊖◌, con, v0, v1, v2, v3}
 use Rattle.surd_number.specs.NumberLaws.{number_ring, is_zero_number, exact_numbers_IsRing, same_from_difference, IsSame-trans, IsSame-sym, product_of-same, IsSame-refl, unit_of-inverse}
-use Rattle.surd_number.specs.SignLaws.{opposite_sign, sign_of-same, sign_of-negative}
+use Rattle.surd_number.specs.SignLaws.{sign_of-same, sign_of-negative}
 use Rattle.plane_geometry.specs.Position.{Position, opposite_of, cross_of}
-use Rattle.plane_geometry.specs.Direction.{direction_vector, upper_vector}
+use Rattle.plane_geometry.specs.Direction.{direction_vector, upper_vector, turn_sign}
 use Rattle.plane_geometry.specs.CrossTable.{cross_tangents, cross_roots}
-use Rattle.plane_geometry.specs.SideLaws.{turn_sign}
 
 -- ---- the table
 

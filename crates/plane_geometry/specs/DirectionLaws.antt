@@ -3,15 +3,15 @@
 use Rattle.std.proofs.Common.{◌≡◌, ◌↔◌, ℕ, zero, suc, ◌+◌, ◌-◌, ◌<◌, ◌≤◌, Bool, true, false, cond, not, ◌&&◌, ◌||◌, ltb, eqb, inl, inr, None, Some, [], ◌∷◌, pos, refl, sym, ap, ap₂, ◌∙◌, arith}
 use Rattle.std.proofs.lemmas.Bool.{agree_below, agree_below_at, and_parts, and_from, lt-ltb, le-ltb, eqb-true, cases_lt}
 use Rattle.surd_number.specs.declared.Sgn.TheVariants.{Zero, Pos}
-use Rattle.surd_number.specs.Number.{Number, IsSame, whole, product_of, sign_of}
+use Rattle.surd_number.specs.Number.{Number, IsSame, whole, product_of, sign_of, times_sign}
 use Rattle.surd_number.specs.RingTool.{◌⊕◌, ◌⊝◌, ◌⊗◌, ⊖◌, con, v0, v1, v2, v3, v4, v5}
 use Rattle.surd_number.specs.NumberLaws.{number_ring, number_ring_from, number_ring_from_two}
-use Rattle.surd_number.specs.SignLaws.{times_sign, sign_of-same, sign_of-product, sign_of-zero}
+use Rattle.surd_number.specs.SignLaws.{sign_of-same, sign_of-product, sign_of-zero}
 use Rattle.plane_geometry.specs.Position.{Position, vector_of, opposite_of, cross_of, dot_of}
-use Rattle.plane_geometry.specs.Direction.{direction_vector, upper_vector, side_of, is_zero, is_positive, is_along, direction_among, direction_of}
-pub use Rattle.plane_geometry.specs.Direction.{opposite_number}
+use Rattle.plane_geometry.specs.Direction.{direction_vector, upper_vector, side_of, is_zero, is_positive, is_along, direction_among, direction_of, turn_sign}
+use Rattle.plane_geometry.specs.Direction.{opposite_number}
 use Rattle.plane_geometry.specs.Multiple.{IsPositiveMultiple}
-use Rattle.plane_geometry.specs.SideLaws.{square_sign, along_cross, along_dot, turn_sign}
+use Rattle.plane_geometry.specs.SideLaws.{square_sign, along_cross, along_dot}
 use Rattle.plane_geometry.specs.StretchLaws.{zero_is, positive_is}
 
 -- ---- one direction at most

@@ -12,10 +12,9 @@ use Rattle.surd_number.specs.SurdLaws.{wide_is}
 use Rattle.surd_number.specs.Value.{wide_number_of}
 use Rattle.plane_geometry.specs.declared.Line.{Line}
 use Rattle.plane_geometry.specs.Position.{Position, vector_of, cross_of, dot_of}
-use Rattle.plane_geometry.specs.Direction.{direction_vector, side_of, is_zero}
+use Rattle.plane_geometry.specs.Direction.{direction_vector, side_of, is_zero, turn_sign}
 use Rattle.plane_geometry.specs.LineStored.{PassesThroughPoint}
 use Rattle.plane_geometry.specs.LineView.{line_number, line_offset, HaveSamePoints}
-use Rattle.plane_geometry.specs.SideLaws.{turn_sign}
 use Rattle.plane_geometry.specs.DirectionLaws.{square_inverse}
 use Rattle.plane_geometry.specs.MeetLaws.{on_line_offset, on_line_from_offset}
 

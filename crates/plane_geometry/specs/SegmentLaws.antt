@@ -14,14 +14,14 @@ use Rattle.surd_number.specs.Value.{number_of}
 use Rattle.plane_geometry.specs.declared.Point.{Point}
 use Rattle.plane_geometry.specs.declared.Segment.{Segment}
 use Rattle.plane_geometry.specs.Position.{Position, position_of, compare_positions}
-use Rattle.plane_geometry.specs.Direction.{is_along, direction_of}
+use Rattle.plane_geometry.specs.Direction.{is_along, direction_of, opposite_number}
 use Rattle.plane_geometry.specs.Ends.{HasNoDirection}
 use Rattle.plane_geometry.specs.Stretch.{Stretch}
 use Rattle.plane_geometry.specs.Stored.{IsStretch}
 use Rattle.plane_geometry.specs.SegmentView.{lesser_end, greater_end}
 use Rattle.plane_geometry.specs.SegmentOf.{is_segment, segment_by, segment_from, segment_of}
 use Rattle.plane_geometry.specs.SideLaws.{order_of, then_parts}
-use Rattle.plane_geometry.specs.DirectionLaws.{along_unique, along_back, opposite_number, direction_found}
+use Rattle.plane_geometry.specs.DirectionLaws.{along_unique, along_back, direction_found}
 use Rattle.plane_geometry.specs.DirLaws.{dir_is}
 
 -- ---- points

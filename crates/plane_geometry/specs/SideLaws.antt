@@ -4,13 +4,13 @@ use Rattle.std.proofs.lemmas.Bool.{false≢true}
 use Rattle.std.specs.Ordering.{ordering_then}
 use Rattle.surd_number.specs.declared.Sgn.{Sgn}
 use Rattle.surd_number.specs.declared.Sgn.TheVariants.{Neg, Zero, Pos}
-use Rattle.surd_number.specs.Number.{Number, IsSame, whole, sum_of, difference_of, product_of, negative_of, sign_of, ordering_of}
+use Rattle.surd_number.specs.Number.{Number, IsSame, whole, sum_of, difference_of, product_of, negative_of, sign_of, ordering_of, opposite_sign, times_sign}
 use Rattle.surd_number.specs.RingTool.{◌⊕◌, ◌⊝◌, ◌⊗◌, ⊖◌, con, v0, v1, v2, v3, v4, v5, v6, v7}
 use Rattle.plane_geometry.specs.Position.{Position, vector_of, opposite_of, cross_of, dot_of, compare_positions}
 use Rattle.plane_geometry.specs.Direction.{direction_vector, upper_vector, side_of}
-pub use Rattle.plane_geometry.specs.Direction.{turn_sign}
+use Rattle.plane_geometry.specs.Direction.{turn_sign}
 use Rattle.surd_number.specs.NumberLaws.{number_ring}
-use Rattle.surd_number.specs.SignLaws.{opposite_sign, times_sign, sign_of-same, sign_of-negative, sign_of-product, sign_of-sum_positive, sign_of-sum_negative, sign_of-sum_zero, sign_of-sum_zero_right}
+use Rattle.surd_number.specs.SignLaws.{sign_of-same, sign_of-negative, sign_of-product, sign_of-sum_positive, sign_of-sum_negative, sign_of-sum_zero, sign_of-sum_zero_right}
 
 -- ---- signs
 

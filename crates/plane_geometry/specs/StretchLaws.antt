@@ -4,12 +4,11 @@ use Rattle.std.proofs.lemmas.Bool.{true≢false, false≢true, and_parts, or_cas
 use Rattle.std.specs.Ordering.{is_lt, is_eq}
 use Rattle.surd_number.specs.declared.Sgn.{Sgn}
 use Rattle.surd_number.specs.declared.Sgn.TheVariants.{Neg, Zero, Pos}
-use Rattle.surd_number.specs.Number.{sign_of, ordering_of}
+use Rattle.surd_number.specs.Number.{sign_of, ordering_of, opposite_sign}
 use Rattle.plane_geometry.specs.Position.{Position, vector_of, dot_of, compare_positions, is_same_position}
 use Rattle.plane_geometry.specs.Direction.{direction_vector, side_of, is_positive, is_negative, is_zero}
 use Rattle.plane_geometry.specs.Stored.{IsStretch}
 use Rattle.plane_geometry.specs.Stretch.{Stretch, is_between, is_end, is_on}
-use Rattle.surd_number.specs.SignLaws.{opposite_sign}
 use Rattle.plane_geometry.specs.SideLaws.{may_sum, order_of, compare_is, order_self, order_turned, order_chain, side_chain, side_same, sum_from_zero, sum_to_zero}
 
 -- ---- tests of signs

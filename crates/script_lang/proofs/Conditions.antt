@@ -16,7 +16,7 @@ use Rattle.cp_text.specs.LineReading.{kind_of, ends_read, line_read}
 use Rattle.script_lang.specs.declared.block.LoadStop.TheVariants.{Unended}
 use Rattle.script_lang.specs.declared.command.Command.{Command}
 use Rattle.script_lang.specs.declared.command.Command.TheVariants.{Merge, Clear, Load, Undo, Redo, List as ListCommand, Check, Fold, Another, Budget, Peek, Wait, Cancel}
-use Rattle.script_lang.specs.Judged.{line_command, alone, delete_between, set_kind, set_words, points_read, sheet_command, is_sheet_count, sheet_words, least_budget, most_budget, number_or_fault, job_read, budget_read, with_number, folding_command, word_command, words_command, command_of}
+use Rattle.script_lang.specs.Judged.{line_command, alone, delete_command, set_kind_command, set_words, points_read, sheet_command, is_sheet_count, sheet_words, least_budget, most_budget, number_or_fault, job_read, budget_read, with_number, folding_command, word_command, words_command, command_of}
 use Rattle.script_lang.specs.Script.{meets_condition}
 
 abbrev Meets : Command → Type 0
@@ -34,11 +34,11 @@ by_itself : (command : Command) (words : List (List ℕ)) → Meets command → 
 by_itself command [] h = h
 by_itself command (word ∷ words) h = refl
 
-delete : (ends : Result Ends LineFault) → Meets (delete_between ends)
+delete : (ends : Result Ends LineFault) → Meets (delete_command ends)
 delete (Ok ends) = refl
 delete (Err fault) = refl
 
-set : (kind : Option Kind) (ends : Result Ends LineFault) → Meets (set_kind kind ends)
+set : (kind : Option Kind) (ends : Result Ends LineFault) → Meets (set_kind_command kind ends)
 set None ends = refl
 set (Some Edge) ends = refl
 set (Some Mountain) (Ok ends) = refl

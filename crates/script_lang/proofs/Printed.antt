@@ -13,7 +13,7 @@ use Rattle.cp_text.specs.LineReading.{kind_of, kind_line, words_line, line_read}
 use Rattle.cp_text.specs.Laws.{LinesReadBack, PatternsArePartedByLines}
 use Rattle.script_lang.specs.declared.block.LoadStop.TheVariants.{Ended}
 use Rattle.script_lang.specs.declared.command.Command.TheVariants.{Load}
-use Rattle.script_lang.specs.Script.{is_only, is_end_line, unless_blank, block_read, numbered, lines_before, block_command, commands_from, commands_of}
+use Rattle.script_lang.specs.Script.{is_only, is_end_line, unless_blank, block_read, line_to_load, lines_before, block_command, commands_from, commands_of}
 use Rattle.script_lang.specs.Laws.{has_no_end, is_good, are_good, numbered_lines, PrintedPatternsAreLoaded}
 use Rattle.script_lang.proofs.Scripts.{blocks_are_one_command, good_lines_are_loaded}
 
@@ -74,7 +74,7 @@ numbers r [] n = refl
 numbers r (line ∷ lines) n =
     ap (λ answer. lines_before n (answer ∷ map block_read (map line_body lines)))
     (read_some (line_body line) line (r line))
-    ∙ ap (λ ls. numbered n line ∷ ls) (numbers r lines (n + 1))
+    ∙ ap (λ ls. line_to_load n line ∷ ls) (numbers r lines (n + 1))
 
 -- ---- printed patterns
 

@@ -11,7 +11,7 @@ use Rattle.script_lang.specs.declared.block.LoadStop.TheVariants.{Ended, Bad, Un
 use Rattle.script_lang.specs.declared.command.Command.{Command}
 use Rattle.script_lang.specs.declared.command.Command.TheVariants.{Load}
 use Rattle.script_lang.specs.Judged.{command_of}
-use Rattle.script_lang.specs.Script.{is_load_line, is_end_line, inside_of, ending_of, block_read, lines_before, stop_at, numbered, block_command, block_of, commands_from}
+use Rattle.script_lang.specs.Script.{is_load_line, is_end_line, inside_of, ending_of, block_read, lines_before, stop_at, line_to_load, block_command, block_of, commands_from}
 use Rattle.script_lang.specs.Laws.{has_no_load, has_no_end, is_good, are_good, PlainLinesAreJudged, BlocksAreOneCommand, OpenBlocksAreOneCommand, FirstBadLineStops, GoodLinesAreLoaded}
 
 both : (b c : Bool) → IsTrue (not b && c) → (b ≡ false) × IsTrue c
@@ -146,7 +146,7 @@ stops (l ∷ ls) rest line fault ending n h bad =
         × (stop_at n (answer ∷ map block_read (ls ++ line ∷ rest)) ending ≡ Bad (n + length (l ∷ ls)) fault)
     go None h later = ((later h).0, (later h).1 ∙ ap (λ m. Bad m fault) (omega arith))
     go (Some (Ok first)) h later = (
-      ap (λ lines. numbered n first ∷ lines) (later h).0,
+      ap (λ lines. line_to_load n first ∷ lines) (later h).0,
       (later h).1
           ∙ ap (λ m. Bad m fault) (omega arith),
     )

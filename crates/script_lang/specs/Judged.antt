@@ -27,24 +27,24 @@ abbrev pub alone : Command → List (List ℕ) → Command
 alone command [] = command
 alone command (word ∷ words) = Bad WrongCount
 
-abbrev pub delete_between : Result Ends LineFault → Command
-delete_between (Ok ends) = Delete ends.from ends.to
-delete_between (Err fault) = Bad fault
+abbrev pub delete_command : Result Ends LineFault → Command
+delete_command (Ok ends) = Delete ends.from ends.to
+delete_command (Err fault) = Bad fault
 
-abbrev pub set_between : Kind → Result Ends LineFault → Command
-set_between kind (Ok ends) = Set kind ends.from ends.to
-set_between kind (Err fault) = Bad fault
+abbrev pub set_command : Kind → Result Ends LineFault → Command
+set_command kind (Ok ends) = Set kind ends.from ends.to
+set_command kind (Err fault) = Bad fault
 
 -- a piece becomes a mountain or a valley
-abbrev pub set_kind : Option Kind → Result Ends LineFault → Command
-set_kind None ends = Bad BadKind
-set_kind (Some kind) ends = if is_crease_kind kind then set_between kind ends else Bad BadKind
+abbrev pub set_kind_command : Option Kind → Result Ends LineFault → Command
+set_kind_command None ends = Bad BadKind
+set_kind_command (Some kind) ends = if is_crease_kind kind then set_command kind ends else Bad BadKind
 
 -- a kind and two ends
 abbrev pub set_words : List (List ℕ) → Command
 set_words [] = Bad WrongCount
 set_words (kind ∷ words) =
-    if nat_eq (length words) 4 then set_kind (kind_of kind) (ends_read 2 words) else Bad WrongCount
+    if nat_eq (length words) 4 then set_kind_command (kind_of kind) (ends_read 2 words) else Bad WrongCount
 
 -- two words for each of 3 to 16 points
 abbrev pub is_sheet_count : ℕ → Bool
@@ -111,7 +111,7 @@ folding_command word words =
 -- a line `load` by itself is a block without lines and without its end
 abbrev pub word_command : List ℕ → List (List ℕ) → Command
 word_command word words =
-    if bytes_eq word (codes "delete") then delete_between (ends_read 1 words)
+    if bytes_eq word (codes "delete") then delete_command (ends_read 1 words)
     else if bytes_eq word (codes "set") then set_words words
     else if bytes_eq word (codes "merge") then alone Merge words
     else if bytes_eq word (codes "clear") then alone Clear words

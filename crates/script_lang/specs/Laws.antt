@@ -16,7 +16,7 @@ use Rattle.script_lang.specs.declared.block.LoadStop.{LoadStop}
 use Rattle.script_lang.specs.declared.block.LoadStop.TheVariants.{Ended, Bad, Unended}
 use Rattle.script_lang.specs.declared.command.Command.TheVariants.{Load}
 use Rattle.script_lang.specs.Judged.{command_of}
-use Rattle.script_lang.specs.Script.{is_load_line, is_end_line, block_read, numbered, lines_before, block_command, commands_from, commands_of, file_command}
+use Rattle.script_lang.specs.Script.{is_load_line, is_end_line, block_read, line_to_load, lines_before, block_command, commands_from, commands_of, file_command}
 
 -- no line begins a block
 abbrev pub has_no_load : List (List ℕ) → Bool
@@ -80,7 +80,7 @@ SingleLinesAreJudged = (line : List ℕ) → commands_from false (line ∷ []) �
 -- lines with their numbers, the first of them with this one
 abbrev pub numbered_lines : ℕ → List CpLine → List LoadLine
 numbered_lines n [] = []
-numbered_lines n (line ∷ lines) = numbered n line ∷ numbered_lines (n + 1) lines
+numbered_lines n (line ∷ lines) = line_to_load n line ∷ numbered_lines (n + 1) lines
 
 -- the text of a pattern, put between `load` and `end`, is one command with the lines of the pattern
 abbrev pub PrintedPatternsAreLoaded : Type 0

@@ -59,14 +59,14 @@ unless_blank (word ∷ words) answer = Some answer
 abbrev pub block_read : List ℕ → Option (Result CpLine LineFault)
 block_read line = unless_blank (words_of line) (line_read line)
 
-abbrev pub numbered : ℕ → CpLine → LoadLine
-numbered n line = record { number = n; kind = line.kind; from = line.from; to = line.to }
+abbrev pub line_to_load : ℕ → CpLine → LoadLine
+line_to_load n line = record { number = n; kind = line.kind; from = line.from; to = line.to }
 
 -- the crease lines before the first bad one. The first answer is that of the line with this number.
 abbrev pub lines_before : ℕ → List (Option (Result CpLine LineFault)) → List LoadLine
 lines_before n [] = []
 lines_before n (None ∷ answers) = lines_before (n + 1) answers
-lines_before n (Some (Ok line) ∷ answers) = numbered n line ∷ lines_before (n + 1) answers
+lines_before n (Some (Ok line) ∷ answers) = line_to_load n line ∷ lines_before (n + 1) answers
 lines_before n (Some (Err fault) ∷ answers) = []
 
 -- the first bad line, or how the block ends where none is bad

@@ -3,7 +3,7 @@
 ghost use Rattle.std.specs.Prelude.{◌≡◌, ◌∷◌, ◌≤◌, [], length, min, Some, IfOk, IfSome, IsTrue};
 ghost use Rattle.cp_text.specs.Words.{words_of};
 ghost use Rattle.cp_text.specs.LineReading.{ends_read, line_read};
-ghost use Rattle.script_lang.specs.Judged.{command_of, words_command, word_command, line_command, alone, delete_between, set_between, set_kind, set_words, is_sheet_count, points_read, sheet_command, sheet_words, number_alone, job_read, budget_read, with_number, folding_command};
+ghost use Rattle.script_lang.specs.Judged.{command_of, words_command, word_command, line_command, alone, delete_command, set_command, set_kind_command, set_words, is_sheet_count, points_read, sheet_command, sheet_words, number_alone, job_read, budget_read, with_number, folding_command};
 ghost use Rattle.script_lang.specs.Script.{meets_condition};
 
 use crate::block::{LoadLines, LoadStop};
@@ -55,7 +55,7 @@ fn judge_alone(command: Command, rest: &[u8]) -> Command
 }
 
 fn judge_delete(words: &[u8]) -> Command
-    ensures { result ≡ delete_between (ends_read 1 (words_of words.now)) }
+    ensures { result ≡ delete_command (ends_read 1 (words_of words.now)) }
 {
     match read_ends(1, words) {
         Ok(Ends { from, to }) => Command::Delete { from, to },
@@ -80,7 +80,7 @@ fn count_words(words: &[u8]) -> usize
 }
 
 fn set_ends(kind: Kind, words: &[u8]) -> Command
-    ensures { result ≡ set_between kind (ends_read 2 (words_of words.now)) }
+    ensures { result ≡ set_command kind (ends_read 2 (words_of words.now)) }
 {
     match read_ends(2, words) {
         Ok(Ends { from, to }) => Command::Set { kind, from, to },
@@ -89,7 +89,7 @@ fn set_ends(kind: Kind, words: &[u8]) -> Command
 }
 
 fn judge_kind(kind: Option<Kind>, words: &[u8]) -> Command
-    ensures { result ≡ set_kind kind (ends_read 2 (words_of words.now)) }
+    ensures { result ≡ set_kind_command kind (ends_read 2 (words_of words.now)) }
 {
     match kind {
         Some(Kind::Mountain) => set_ends(Kind::Mountain, words),

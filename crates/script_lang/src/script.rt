@@ -3,7 +3,7 @@
 ghost use Rattle.std.specs.Prelude.{◌≡◌, ◌<◌, ◌≤◌, ◌∷◌, [], ◌++◌, ◌&&◌, nat_le, length, true, false, IfOk, OnOk, IsTrue};
 ghost use Rattle.std.specs.List.{list_all};
 ghost use Rattle.cp_text.specs.Words.{longest_line, words_of, bare_lines};
-ghost use Rattle.script_lang.specs.Script.{meets_condition, is_only, is_load_line, is_end_line, numbered, block_of, commands_from, commands_of, file_command};
+ghost use Rattle.script_lang.specs.Script.{meets_condition, is_only, is_load_line, is_end_line, line_to_load, block_of, commands_from, commands_of, file_command};
 
 use crate::block::{LoadLines, LoadStop};
 use crate::command::Command;
@@ -75,7 +75,7 @@ pub fn is_load(line: &[u8]) -> bool
 }
 
 /// Whether a line without its end ends a block.
-fn is_end(line: &[u8]) -> bool
+fn is_end_line(line: &[u8]) -> bool
     ensures { result ≡ is_end_line line.now }
 {
     match next_word(line) {
@@ -107,8 +107,8 @@ fn push_load(
     Ok(())
 }
 
-fn numbered(number: u32, line: CpLine) -> LoadLine
-    ensures { result ≡ numbered number line }
+fn line_to_load(number: u32, line: CpLine) -> LoadLine
+    ensures { result ≡ line_to_load number line }
 {
     LoadLine {
         number,
@@ -126,7 +126,7 @@ fn after_block(text: &[u8]) -> &[u8]
 {
     let mut rest = text;
     while let Some((passed, after)) = next_line(rest) {
-        if is_end(passed) {
+        if is_end_line(passed) {
             return after;
         }
         rest = after;
@@ -158,7 +158,7 @@ fn push_block<'a>(
                 return Ok(after);
             }
             match read_line_words(line, word, words) {
-                Ok(line) => lines.push(numbered(number, line))?,
+                Ok(line) => lines.push(line_to_load(number, line))?,
                 Err(fault) => {
                     push_load(list, lines, LoadStop::Bad { number, fault })?;
                     return Ok(after_block(after));
@@ -239,7 +239,7 @@ pub fn read_file(alloc: Global, bytes: &[u8]) -> Result<Command, AllocError>
     while let Some((line, after)) = next_line(rest) {
         if let Some((word, words)) = next_word(line) {
             match read_line_words(line, word, words) {
-                Ok(line) => lines.push(numbered(place, line))?,
+                Ok(line) => lines.push(line_to_load(place, line))?,
                 Err(fault) => {
                     let number = place;
                     return Ok(load(lines, LoadStop::Bad { number, fault }));

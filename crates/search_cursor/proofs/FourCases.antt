@@ -3,10 +3,10 @@ use Rattle.std.proofs.Common.{◌≡◌, Bool, true, false, not, List, [], ◌�
 use Rattle.std.proofs.lemmas.Bool.{true≢false, not-true, and_parts}
 use Rattle.sign_rules.specs.declared.sign.Sign.{Sign}
 use Rattle.sign_rules.specs.declared.sign.Sign.TheVariants.{Over, Under}
-use Rattle.search_cursor.specs.Place.{Place, stands_before, is_before}
+use Rattle.search_cursor.specs.Place.{SearchPlace, stands_before, is_earlier}
 use Rattle.search_cursor.specs.Cases.{IsBefore, same, front, back, over}
 
-at : List Sign → Bool → Place
+at : List Sign → Bool → SearchPlace
 at s x = record { signs = s; past = x }
 
 longer : (sign : Sign) (s r : List Sign) (x y : Bool) → IsBefore (at s x) (at r y)
@@ -52,13 +52,13 @@ across [] = refl
 across (Over ∷ s) = across s
 across (Under ∷ s) = across s
 
-before_of : (p q : Place) → IsBefore p q → is_before p q ≡ true
+before_of : (p q : SearchPlace) → IsBefore p q → is_earlier p q ≡ true
 before_of p q (same e f g) = simp (e, f, g) (across q.signs)
 before_of p q (front sign rest e f) = simp (e, f) (before_front p.signs sign rest q.past)
 before_of p q (back sign rest e f) = simp (e, f) (after_front q.signs sign rest p.past)
 before_of p q (over common rest others e f) =
     simp (e, f) (stands_before-append common (Over ∷ rest) (Under ∷ others) p.past q.past)
 
-pub four_cases : (p q : Place) → (is_before p q ≡ true) ↔ IsBefore p q
+pub four_cases : (p q : SearchPlace) → (is_earlier p q ≡ true) ↔ IsBefore p q
 unfolding at
 four_cases p q = (cases_of p.signs q.signs p.past q.past, before_of p q)

@@ -3,7 +3,7 @@ use Rattle.std.proofs.Common.{◌≡◌, ◌⊎◌, Bool, true, false, ◌||◌,
 use Rattle.std.proofs.lemmas.Bool.{true≢false, and_from}
 use Rattle.sign_rules.specs.declared.sign.Sign.{Sign}
 use Rattle.sign_rules.specs.declared.sign.Sign.TheVariants.{Over, Under}
-use Rattle.search_cursor.specs.Place.{Place, stands_before, is_passed, list_before, begins_with}
+use Rattle.search_cursor.specs.Place.{SearchPlace, stands_before, is_passed, list_before, begins_with}
 
 pub transitive : (s r t : List Sign) (x y z : Bool) → stands_before s x r y ≡ true
     → stands_before r y t z ≡ true → stands_before s x t z ≡ true
@@ -46,9 +46,9 @@ total (Under ∷ s) (Under ∷ r) x y = behind Under s r x y (total s r x y)
 total (Over ∷ s) (Under ∷ r) x y = inl refl
 total (Under ∷ s) (Over ∷ r) x y = inr (inr refl)
 
-pub same_place : (p q : Place) → p.signs ≡ q.signs → p.past ≡ q.past → p ≡ q
+pub same_place : (p q : SearchPlace) → p.signs ≡ q.signs → p.past ≡ q.past → p ≡ q
 same_place p q e f =
-    let at : List Sign → Bool → Place = λ s x. record { signs = s; past = x } in
+    let at : List Sign → Bool → SearchPlace = λ s x. record { signs = s; past = x } in
     ap (λ s. at s p.past) e ∙ ap (λ x. at q.signs x) f
 
 pub passed_before : (list s : List Sign) → is_passed list s false ≡ list_before list s

@@ -2,9 +2,9 @@
 use Rattle.std.specs.Prelude.{◌≡◌, true, false, List, ◌∷◌, ◌++◌}
 use Rattle.sign_rules.specs.declared.sign.Sign.{Sign}
 use Rattle.sign_rules.specs.declared.sign.Sign.TheVariants.{Over, Under}
-use Rattle.search_cursor.specs.Place.{Place}
+use Rattle.search_cursor.specs.Place.{SearchPlace}
 
-pub data IsBefore (p q : Place) : Type 0 where
+pub data IsBefore (p q : SearchPlace) : Type 0 where
   -- the same signs, before and after what begins with them
   same : p.signs ≡ q.signs → p.past ≡ false → q.past ≡ true → IsBefore p q
   -- the first signs are a proper front of the others, and the first place is before what begins with them

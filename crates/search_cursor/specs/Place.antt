@@ -6,12 +6,12 @@ use Rattle.sign_rules.specs.declared.sign.Sign.TheVariants.{Over, Under}
 use Rattle.search_cursor.specs.declared.position.Position.{Position}
 
 -- `past` false: right before the signs and all that begins with them; `past` true: right after all of it
-pub record Place : Type 0 where
+pub record SearchPlace : Type 0 where
   pub signs : List Sign
   pub past : Bool
 
-abbrev pub place_of : Position → Place
-place_of p = record { signs = p.signs.list; past = p.past }
+abbrev pub search_place : Position → SearchPlace
+search_place p = record { signs = p.signs.list; past = p.past }
 
 -- whether (s, x) stands before (r, y): at the first difference Over stands before Under
 abbrev pub stands_before : List Sign → Bool → List Sign → Bool → Bool
@@ -23,8 +23,8 @@ stands_before (Under ∷ s) x (Under ∷ r) y = stands_before s x r y
 stands_before (Over ∷ _) x (Under ∷ _) y = true
 stands_before (Under ∷ _) x (Over ∷ _) y = false
 
-abbrev pub is_before : Place → Place → Bool
-is_before p q = stands_before p.signs p.past q.signs q.past
+abbrev pub is_earlier : SearchPlace → SearchPlace → Bool
+is_earlier p q = stands_before p.signs p.past q.signs q.past
 
 -- whether a sign list stands before a place: where the place right before that list does
 abbrev pub is_passed : List Sign → List Sign → Bool → Bool

@@ -1,6 +1,6 @@
 ghost use Rattle.std.specs.Prelude.{◌≡◌, IsTrue, ◌↔◌, IfOk, false};
-ghost use Rattle.sign_rules.specs.Signs.{order_of};
-ghost use Rattle.search_cursor.specs.Place.{place_of, is_before, stands_before};
+ghost use Rattle.sign_rules.specs.Signs.{bare_order};
+ghost use Rattle.search_cursor.specs.Place.{search_place, is_earlier, stands_before};
 ghost use Rattle.search_cursor.specs.Cases.{IsBefore};
 
 use sign_rules::{Order, Sign};
@@ -16,8 +16,8 @@ pub struct Position {
 impl Position {
     /// Whether this position stands before the other one.
     pub fn before(&self, other: &Position) -> bool
-        ensures value { result ≡ is_before (place_of self.now) (place_of other.now) }
-        ensures cases { IsTrue result ↔ IsBefore (place_of self.now) (place_of other.now) }
+        ensures value { result ≡ is_earlier (search_place self.now) (search_place other.now) }
+        ensures cases { IsTrue result ↔ IsBefore (search_place self.now) (search_place other.now) }
     {
         stands_before(
             self.signs.as_slice(),
@@ -29,14 +29,14 @@ impl Position {
 
     /// Whether the positions are the same.
     pub fn same(&self, other: &Position) -> bool
-        ensures { IsTrue result ↔ (place_of self.now ≡ place_of other.now) }
+        ensures { IsTrue result ↔ (search_place self.now ≡ search_place other.now) }
     {
         self.past == other.past && self.signs.same(&other.signs)
     }
 
     /// An equal position.
     pub fn copy(&self) -> Result<Position, AllocError>
-        ensures { IfOk result (λ p. place_of p ≡ place_of self.now) }
+        ensures { IfOk result (λ p. search_place p ≡ search_place self.now) }
     {
         Ok(Position {
             signs: self.signs.copy()?,
@@ -46,7 +46,7 @@ impl Position {
 
     /// The position before all that begins with the prefix.
     pub fn start(alloc: Global, prefix: &[Sign]) -> Result<Position, AllocError>
-        ensures { IfOk result (λ p. place_of p ≡ record { signs = prefix.now; past = false }) }
+        ensures { IfOk result (λ p. search_place p ≡ record { signs = prefix.now; past = false }) }
     {
         Ok(Position {
             signs: Order::of(prefix.to_vec(alloc)?),

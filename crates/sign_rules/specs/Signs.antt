@@ -18,5 +18,5 @@ pub record OrderView : Type 0 where
   pub room : ℕ
 
 -- these signs, with no room promised
-abbrev pub order_of : List Sign → OrderView
-order_of signs = record { list = signs; room = 0 }
+abbrev pub bare_order : List Sign → OrderView
+bare_order signs = record { list = signs; room = 0 }

@@ -1,6 +1,6 @@
 ghost use Rattle.std.specs.Prelude.{◌≡◌, [], ◌∷◌, ◌++◌, ◌<◌, ◌≤◌, length, IfOk, IsSome, IsTrue, ◌↔◌};
 ghost use Rattle.std.specs.Option.{option_to_list};
-ghost use Rattle.sign_rules.specs.Signs.{order_of};
+ghost use Rattle.sign_rules.specs.Signs.{bare_order};
 
 use std::alloc::{AllocError, Global};
 use std::marker::Model;
@@ -35,7 +35,7 @@ impl Model for Order {
 impl Order {
     /// These signs.
     pub fn of(signs: Vec<Sign>) -> Order
-        ensures { result ≡ order_of signs.items }
+        ensures { result ≡ bare_order signs.items }
     {
         Order { signs, room: 0 }
     }
@@ -69,7 +69,7 @@ impl Order {
 
     /// A list of the same signs, with no room promised.
     pub fn copy(&self) -> Result<Order, AllocError>
-        ensures { IfOk result (λ o. o ≡ order_of self.now.list) }
+        ensures { IfOk result (λ o. o ≡ bare_order self.now.list) }
     {
         Ok(Order {
             signs: self.signs.clone()?,

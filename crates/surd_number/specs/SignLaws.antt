@@ -10,7 +10,7 @@ use Rattle.surd_number.specs.NumberLaws.{number_ring, number_ring_from, IsSame-r
 use Rattle.surd_number.specs.declared.Sgn.{Sgn}
 use Rattle.surd_number.specs.declared.Sgn.TheVariants.{Neg, Zero, Pos}
 use Rattle.surd_number.specs.Number.{Number, IsSame, power, whole, sum_of, product_of, negative_of, difference_of, half_of, root_sign, sign_of, ordering_of, compare_of, IsLess, tangent, root_two, power_of, unit_of, unit_inverse_of}
-pub use Rattle.surd_number.specs.Number.{opposite_sign, times_sign}
+use Rattle.surd_number.specs.Number.{opposite_sign, times_sign}
 
 -- ---- the square root of two is irrational
 

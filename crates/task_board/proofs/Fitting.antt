@@ -9,7 +9,7 @@ use Rattle.task_board.specs.declared.event.Stand.TheVariants.{Waiting, Taken, Po
 use Rattle.task_board.specs.declared.event.Ticket.{Ticket}
 use Rattle.task_board.specs.declared.event.Step.TheVariants.{Put, Take, Post, GiveBack, Fetch, Obtain, Close}
 use Rattle.task_board.specs.Numbers.{at_number, put_at}
-use Rattle.task_board.specs.History.{Replay, Adds, added, after, is_next, is_ticket, is_waiting, is_taken_for, is_answered_for, is_idle_for, moved, replay_of, ticket_at}
+use Rattle.task_board.specs.History.{Replay, Adds, with_event, after_event, is_next, is_ticket, is_waiting, is_taken_for, is_answered_for, is_idle_for, with_stand, replay_of, ticket_at}
 use Rattle.task_board.specs.declared.fault.PutFault.{PutFault}
 use Rattle.task_board.specs.declared.fault.PutFault.TheVariants.{Closed, Spent, Memory}
 use Rattle.task_board.specs.declared.fault.Waits.{Waits}
@@ -44,7 +44,7 @@ things_of ks r n k test fits passes is =
 -- what stands beside the tickets after one was moved
 things_moved : (ks : List ℕ) (r : Replay) (n k : ℕ) (stand : Stand) (test : Ticket → Bool) → ks ≡ map things_at r.tickets
     → is_ticket test (ticket_at r n) ≡ true → ((owner : ℕ) → things_at (record { owner = owner; stand = stand }) ≡ k)
-    → put_at ks n k ≡ map things_at (moved r n stand).tickets
+    → put_at ks n k ≡ map things_at (with_stand r n stand).tickets
 things_moved ks r n k stand test fits passes is =
     let f = found_at test (ticket_at r n) passes in
     rw (fits, f.1, map-put_at things_at r.tickets n (record { owner = f.0.owner; stand = stand }), is f.0.owner) refl
@@ -83,7 +83,7 @@ answered_things seat t h = by_stand seat t.owner t.stand h
     by_stand seat o Left h = absurd (and_false _ h)
     by_stand seat o Gone h = absurd (and_false _ h)
 
-pub adds_replay : (old new : List Event) (e : Event) → Adds old e new → replay_of new ≡ after (replay_of old) e
+pub adds_replay : (old new : List Event) (e : Event) → Adds old e new → replay_of new ≡ after_event (replay_of old) e
 adds_replay old new e a = rw a.1 (replay_more old e)
 
 pub adds_grows : (old new : List Event) (e : Event) → Adds old e new → length old ≤ length new
@@ -95,20 +95,20 @@ added_by : (P : List Event → Type 0) (old : List Event) (e : Event) (b : Bool)
 added_by P old e true is made stays = made (is, refl)
 added_by P old e false is made stays = stays
 
-pub by_added : (P : List Event → Type 0) (old new : List Event) (e : Event) → new ≡ added old e
+pub by_added : (P : List Event → Type 0) (old new : List Event) (e : Event) → new ≡ with_event old e
     → (Adds old e (old ++ e ∷ []) → P (old ++ e ∷ [])) → P old → P new
 by_added P old new e is made stays = subst P (sym is) (added_by P old e (is_next (replay_of old) e) refl made stays)
 
-pub added_grows : (old new : List Event) (e : Event) → new ≡ added old e → length old ≤ length new
+pub added_grows : (old new : List Event) (e : Event) → new ≡ with_event old e → length old ≤ length new
 added_grows old new e is = by_added (λ es. length old ≤ length es) old new e is (λ a. adds_grows old (old ++ e ∷ []) e a) (omega arith)
 
 -- an event that moves no ticket
-same_fits : (ks : List ℕ) (old new : List Event) (e : Event) → (after (replay_of old) e).tickets ≡ (replay_of old).tickets → Fits ks old → Adds old e new → Fits ks new
+same_fits : (ks : List ℕ) (old new : List Event) (e : Event) → (after_event (replay_of old) e).tickets ≡ (replay_of old).tickets → Fits ks old → Adds old e new → Fits ks new
 same_fits ks old new e same fits a = rw (adds_replay old new e a, same) fits
 
 -- an event that moves a ticket
 move_fits : (ks : List ℕ) (old new : List Event) (e : Event) (n k : ℕ) (stand : Stand) (test : Ticket → Bool)
-    → after (replay_of old) e ≡ moved (replay_of old) n stand → is_ticket test (ticket_at (replay_of old) n) ≡ true
+    → after_event (replay_of old) e ≡ with_stand (replay_of old) n stand → is_ticket test (ticket_at (replay_of old) n) ≡ true
     → ((owner : ℕ) → things_at (record { owner = owner; stand = stand }) ≡ k) → Fits ks old → Adds old e new → Fits (put_at ks n k) new
 move_fits ks old new e n k stand test leaves passes is fits a =
     rw (adds_replay old new e a, leaves) (things_moved ks (replay_of old) n k stand test fits passes is)
@@ -136,16 +136,16 @@ take_fits ks old new s n fits a =
       move_fits ks old new (event s (Take (Some n))) n 0 (Taken s) is_waiting refl waits (λ o. refl) fits a,
     )
 
-pub told_fits : (ks : List ℕ) (old new : List Event) (s : ℕ) → Fits ks old → new ≡ added old (event s (Take None)) → Fits ks new
+pub told_fits : (ks : List ℕ) (old new : List Event) (s : ℕ) → Fits ks old → new ≡ with_event old (event s (Take None)) → Fits ks new
 told_fits ks old new s fits is =
     by_added (Fits ks) old new (event s (Take None)) is (λ a. same_fits ks old _ (event s (Take None)) refl fits a) fits
 
-pub close_fits : (ks : List ℕ) (old new : List Event) (s : ℕ) → Fits ks old → new ≡ added old (event s Close) → Fits ks new
+pub close_fits : (ks : List ℕ) (old new : List Event) (s : ℕ) → Fits ks old → new ≡ with_event old (event s Close) → Fits ks new
 close_fits ks old new s fits is =
     by_added (Fits ks) old new (event s Close) is (λ a. same_fits ks old _ (event s Close) refl fits a) fits
 
 -- an event that may come next was added
-pub added_next : (old new : List Event) (e : Event) → is_next (replay_of old) e ≡ true → new ≡ added old e → Adds old e new
+pub added_next : (old new : List Event) (e : Event) → is_next (replay_of old) e ≡ true → new ≡ with_event old e → Adds old e new
 added_next old new e next is = (next, is ∙ rw next refl)
 
 pub post_fits : (ks : List ℕ) (old new : List Event) (s n : ℕ) → Fits ks old → Adds old (event s (Post n)) new
@@ -164,10 +164,10 @@ put_same (x ∷ ks) (suc (suc n)) k is = ap (λ ys. x ∷ ys) (put_same ks (suc 
 give_back_fits' : (ks : List ℕ) (old new : List Event) (s n : ℕ) → Fits ks old → Adds old (event s (GiveBack n)) new → Fits ks new
 give_back_fits' ks old new s n fits a =
     let nothing = things_of ks (replay_of old) n 0 (is_taken_for s) fits a.0 (taken_things s) in
-    let moved : Fits (put_at ks n 0) new = move_fits ks old new (event s (GiveBack n)) n 0 Left (is_taken_for s) refl a.0 (λ o. refl) fits a in
-    sym (put_same ks n 0 nothing) ∙ moved
+    let with_stand : Fits (put_at ks n 0) new = move_fits ks old new (event s (GiveBack n)) n 0 Left (is_taken_for s) refl a.0 (λ o. refl) fits a in
+    sym (put_same ks n 0 nothing) ∙ with_stand
 
-pub give_back_fits : (ks : List ℕ) (old new : List Event) (s n : ℕ) → Fits ks old → new ≡ added old (event s (GiveBack n)) → Fits ks new
+pub give_back_fits : (ks : List ℕ) (old new : List Event) (s n : ℕ) → Fits ks old → new ≡ with_event old (event s (GiveBack n)) → Fits ks new
 give_back_fits ks old new s n fits is =
     by_added (Fits ks) old new (event s (GiveBack n)) is (λ a. give_back_fits' ks old _ s n fits a) fits
 

@@ -6,14 +6,14 @@ use Rattle.std.proofs.lemmas.Option.{get_or_from_slice_get, slice_get_within}
 use Rattle.task_board.specs.declared.event.Stand.{Stand}
 use Rattle.task_board.specs.declared.event.Ticket.{Ticket}
 use Rattle.task_board.specs.declared.event.Step.TheVariants.{Put}
-use Rattle.task_board.specs.History.{Replay, is_next_step, ticket_at, moved, is_ticket, is_waiting, flag_of}
+use Rattle.task_board.specs.History.{Replay, is_next_step, ticket_at, with_stand, is_ticket, is_waiting, flag_of}
 use Rattle.task_board.specs.Room.{owed_at, owed_until}
 
 -- a ticket that is there, owes more than the stand, and is moved to it; d stands for any ticket
 pub record MovesTo (r : Replay) (place number : ℕ) (stand : Stand) (d : Ticket) : Type 0 where
   pub within : place < length r.tickets
   pub owes : owed_at stand < owed_at (get_or r.tickets place d).stand
-  pub leaves : moved r number stand ≡ record r { tickets = set r.tickets place (record { owner = (get_or r.tickets place d).owner; stand = stand }) }
+  pub leaves : with_stand r number stand ≡ record r { tickets = set r.tickets place (record { owner = (get_or r.tickets place d).owner; stand = stand }) }
 
 moves_at : (r : Replay) (m : ℕ) (stand : Stand) (d : Ticket) (o : Option Ticket) → slice_get r.tickets m ≡ o
     → MatchOption o ⊥ (λ t. owed_at stand < owed_at t.stand) → MovesTo r m (suc m) stand d

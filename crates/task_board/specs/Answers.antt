@@ -6,7 +6,7 @@ use Rattle.task_board.specs.declared.event.Step.TheVariants.{Put, Take, Obtain}
 use Rattle.task_board.specs.declared.fault.PutFault.{PutFault}
 use Rattle.task_board.specs.declared.fault.PutFault.TheVariants.{Closed, Spent, Memory}
 use Rattle.task_board.specs.declared.fault.Waits.{Waits}
-use Rattle.task_board.specs.History.{Adds, added, replay_of, has_waiting, is_ticket, is_answered_for, is_busy_for, is_idle_for, ticket_at}
+use Rattle.task_board.specs.History.{Adds, with_event, replay_of, has_waiting, is_ticket, is_answered_for, is_busy_for, is_idle_for, ticket_at}
 
 abbrev pub event : ℕ → Step → Event
 event seat step = record { seat = seat; step = step }
@@ -42,7 +42,7 @@ fault_with (Memory x) y = Memory y
 abbrev pub IsTake : {X : Type 0} → (X → ℕ) → List Event → ℕ → Result (Option X) Waits → List Event → Type 0
 IsTake number old seat (Ok (Some x)) new = Adds old (event seat (Take (Some (number x)))) new
 IsTake number old seat (Ok None) new =
-    ((replay_of old).is_closed ≡ true) × (new ≡ added old (event seat (Take None)))
+    ((replay_of old).is_closed ≡ true) × (new ≡ with_event old (event seat (Take None)))
 IsTake number old seat (Err w) new =
     ((replay_of old).is_closed ≡ false) × (has_waiting (replay_of old) ≡ false) × (new ≡ old)
 
@@ -74,5 +74,5 @@ abbrev pub IsObtain : {X : Type 0} → List Event → ℕ → ℕ → Result (Op
 IsObtain old seat n (Ok (Some x)) new = Adds old (event seat (Obtain n true)) new
 IsObtain old seat n (Ok None) new =
     (is_answered_at old seat n ≡ false) × (is_busy_at old seat n ≡ false)
-    × (new ≡ added old (event seat (Obtain n false)))
+    × (new ≡ with_event old (event seat (Obtain n false)))
 IsObtain old seat n (Err w) new = (is_busy_at old seat n ≡ true) × (new ≡ old)

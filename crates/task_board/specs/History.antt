@@ -102,8 +102,8 @@ abbrev pub is_next : Replay → Event → Bool
 is_next r e = is_next_step r e.seat e.step
 
 -- the ticket of this number is there from now on
-abbrev pub moved : Replay → ℕ → Stand → Replay
-moved r n stand = moved_from r n stand (ticket_at r n)
+abbrev pub with_stand : Replay → ℕ → Stand → Replay
+with_stand r n stand = moved_from r n stand (ticket_at r n)
   where
     moved_from : Replay → ℕ → Stand → Option Ticket → Replay
     moved_from r n stand None = r
@@ -116,21 +116,21 @@ after_step r seat (Put None) = r
 after_step r seat (Put (Some n)) =
     record r { tickets = r.tickets ++ record { owner = seat; stand = Waiting } ∷ [] }
 after_step r seat (Take None) = record r { was_told = slice_set r.was_told seat true }
-after_step r seat (Take (Some n)) = moved r n (Taken seat)
-after_step r seat (Post n) = moved r n Posted
-after_step r seat (GiveBack n) = moved r n Left
-after_step r seat (Fetch n true) = moved r n Gone
+after_step r seat (Take (Some n)) = with_stand r n (Taken seat)
+after_step r seat (Post n) = with_stand r n Posted
+after_step r seat (GiveBack n) = with_stand r n Left
+after_step r seat (Fetch n true) = with_stand r n Gone
 after_step r seat (Fetch n false) = r
-after_step r seat (Obtain n found) = moved r n Gone
+after_step r seat (Obtain n found) = with_stand r n Gone
 after_step r seat Close = record r { is_closed = true; has_closed = slice_set r.has_closed seat true }
 
-abbrev pub after : Replay → Event → Replay
-after r e = after_step r e.seat e.step
+abbrev pub after_event : Replay → Event → Replay
+after_event r e = after_step r e.seat e.step
 
 -- what the events leave, one after another
 abbrev pub replay_from : Replay → List Event → Replay
 replay_from r [] = r
-replay_from r (e ∷ es) = replay_from (after r e) es
+replay_from r (e ∷ es) = replay_from (after_event r e) es
 
 abbrev pub replay_of : List Event → Replay
 replay_of es = replay_from empty_board es
@@ -138,14 +138,14 @@ replay_of es = replay_from empty_board es
 -- each event has the answer that those before it give
 abbrev pub is_legal_from : Replay → List Event → Bool
 is_legal_from r [] = true
-is_legal_from r (e ∷ es) = is_next r e && is_legal_from (after r e) es
+is_legal_from r (e ∷ es) = is_next r e && is_legal_from (after_event r e) es
 
 abbrev pub is_legal : List Event → Bool
 is_legal es = is_legal_from empty_board es
 
 -- the history with the step where it may come next, and else as it is
-abbrev pub added : List Event → Event → List Event
-added es e = if is_next (replay_of es) e then es ++ e ∷ [] else es
+abbrev pub with_event : List Event → Event → List Event
+with_event es e = if is_next (replay_of es) e then es ++ e ∷ [] else es
 
 -- the event may come next, and it was added
 abbrev pub Adds : List Event → Event → List Event → Type 0

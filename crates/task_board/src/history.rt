@@ -4,7 +4,7 @@ ghost use Rattle.task_board.specs.declared.event.Event.{Event};
 ghost use Rattle.task_board.specs.declared.event.Ticket.{Ticket};
 ghost use Rattle.task_board.specs.declared.event.Stand.{Stand};
 ghost use Rattle.task_board.specs.declared.event.Step.TheVariants.{Put, Take, Post, GiveBack, Fetch, Obtain, Close};
-ghost use Rattle.task_board.specs.History.{Replay, added, Adds, after_step, is_answered_for, is_busy_for, is_idle_for, is_legal, is_next_step, is_taken_for, is_ticket, is_waiting, moved, replay_of, ticket_at};
+ghost use Rattle.task_board.specs.History.{Replay, with_event, Adds, after_step, is_answered_for, is_busy_for, is_idle_for, is_legal, is_next_step, is_taken_for, is_ticket, is_waiting, with_stand, replay_of, ticket_at};
 ghost use Rattle.task_board.specs.Room.{owed_at};
 
 use crate::event::{Event, Stand, Step, Ticket};
@@ -93,7 +93,7 @@ impl History {
     fn advance(&mut self, seat: u32, number: u32, stand: Stand, step: Step)
         requires next { is_next_step (replay_of self.old) seat step ≡ true }
         requires leaves { after_step (replay_of self.old) seat step
-            ≡ moved (replay_of self.old) number stand }
+            ≡ with_stand (replay_of self.old) number stand }
         requires room { MatchOption (ticket_at (replay_of self.old) number) ⊥
             (λ t. owed_at stand < owed_at t.stand) }
         requires other { is_waiting (record { owner = 0; stand = stand }) ≡ false }
@@ -184,7 +184,7 @@ impl History {
     fn tell(&mut self, seat: u32)
         requires seat { seat < 9 }
         requires closed { (replay_of self.old).is_closed ≡ true }
-        ensures { self.new ≡ added self.old (event seat (Take None)) }
+        ensures { self.new ≡ with_event self.old (event seat (Take None)) }
     {
         if !self.was_told[seat as usize] {
             self.was_told[seat as usize] = true;
@@ -201,7 +201,7 @@ impl History {
     /// A seat posts the outcome of a ticket that it has taken.
     pub fn post(&mut self, seat: u32, number: u32) -> bool
         ensures value { result ≡ is_next_step (replay_of self.old) seat (Post number) }
-        ensures after { self.new ≡ added self.old (event seat (Post number)) }
+        ensures after { self.new ≡ with_event self.old (event seat (Post number)) }
     {
         let taken = is_taken(self.ticket(number), seat);
         if taken {
@@ -213,7 +213,7 @@ impl History {
     /// A seat leaves a ticket that it has taken for its owner.
     pub fn give_back(&mut self, seat: u32, number: u32) -> bool
         ensures value { result ≡ is_next_step (replay_of self.old) seat (GiveBack number) }
-        ensures after { self.new ≡ added self.old (event seat (GiveBack number)) }
+        ensures after { self.new ≡ with_event self.old (event seat (GiveBack number)) }
     {
         let taken = is_taken(self.ticket(number), seat);
         if taken {
@@ -258,7 +258,7 @@ impl History {
     pub fn close(&mut self, seat: u32) -> bool
         requires { seat < 9 }
         ensures value { result ≡ is_next_step (replay_of self.old) seat Close }
-        ensures after { self.new ≡ added self.old (event seat Close) }
+        ensures after { self.new ≡ with_event self.old (event seat Close) }
     {
         let closes = !self.has_closed[seat as usize];
         if closes {

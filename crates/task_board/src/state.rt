@@ -3,7 +3,7 @@ ghost use Rattle.std.specs.Prelude.{◌≡◌, ℕ, ◌+◌, ◌<◌, [], ◌∷
 ghost use Rattle.std.specs.Bool.{OnTrue, OnFalse};
 ghost use Rattle.std.specs.Arc.{arc_value};
 ghost use Rattle.task_board.specs.declared.event.Step.TheVariants.{Post, GiveBack, Fetch, Close};
-ghost use Rattle.task_board.specs.History.{added, Adds, is_next_step, replay_of};
+ghost use Rattle.task_board.specs.History.{with_event, Adds, is_next_step, replay_of};
 ghost use Rattle.task_board.specs.Numbers.{at_number, put_at};
 ghost use Rattle.task_board.specs.Contents.{things_in, things_at};
 
@@ -130,7 +130,7 @@ impl<W: Work, L: Ledger> BoardState<W, L> {
         requires { W.right (W.stands (arc_value task)) outcome }
         ensures value { result ≡ is_next_step (replay_of (events_of self.old)) seat.old.number (Post ticket) }
         ensures history { events_of self.new
-            ≡ added (events_of self.old) (event seat.old.number (Post ticket)) }
+            ≡ with_event (events_of self.old) (event seat.old.number (Post ticket)) }
         ensures posted { OnTrue result ((a : _)
             × (contents_of self.new ≡ put_at (contents_of self.old) ticket (Content.Answer a))
             × (a.task ≡ task) × (a.outcome ≡ outcome)) }
@@ -152,7 +152,7 @@ impl<W: Work, L: Ledger> BoardState<W, L> {
         ensures value { result
             ≡ is_next_step (replay_of (events_of self.old)) seat.old.number (GiveBack ticket) }
         ensures history { events_of self.new
-            ≡ added (events_of self.old) (event seat.old.number (GiveBack ticket)) }
+            ≡ with_event (events_of self.old) (event seat.old.number (GiveBack ticket)) }
         ensures contents { contents_of self.new ≡ contents_of self.old }
         ensures seat { seat.new ≡ seat_after seat.old (events_of self.old) (events_of self.new) }
     {
@@ -226,7 +226,7 @@ impl<W: Work, L: Ledger> BoardState<W, L> {
     /// Closes the board. False where the seat closed it before.
     pub fn close(&mut self, seat: &mut Seat<L>) -> bool
         ensures value { result ≡ is_next_step (replay_of (events_of self.old)) seat.old.number Close }
-        ensures history { events_of self.new ≡ added (events_of self.old) (event seat.old.number Close) }
+        ensures history { events_of self.new ≡ with_event (events_of self.old) (event seat.old.number Close) }
         ensures contents { contents_of self.new ≡ contents_of self.old }
         ensures seat { seat.new ≡ seat_after seat.old (events_of self.old) (events_of self.new) }
     {

@@ -5,8 +5,8 @@ use Rattle.std.proofs.lemmas.Bool.{cases_lt}
 use Rattle.std.proofs.lemmas.List.{length-append}
 use Rattle.crease_model.specs.View.{PatternView}
 use Rattle.undo_journal.specs.declared.Version.{Version}
-use Rattle.undo_journal.specs.Versions.{JournalView, greatest_version, opened, committed, undone, redone, pattern_at, current_pattern, parent_at, redone_to, KeepsPatterns}
-use Rattle.undo_journal.specs.Invariant.{IsRedoable, IsChain, IsJournal}
+use Rattle.undo_journal.specs.Versions.{JournalView, greatest_version, new_journal, committed, undone, redone, pattern_at, current_pattern, parent_at, redone_to, KeepsPatterns}
+use Rattle.undo_journal.specs.Invariant.{IsRedoable, IsMadeInTurn, IsJournal}
 
 -- ---- versions with one more behind them
 
@@ -63,7 +63,7 @@ parent-front j p version h =
     ap (λ o. unwrap_or (option_map (λ (v : Version). v.parent) o) 0)
     (slice_get-front j.versions (record { pattern = p; parent = j.current }) version h)
 
-pub IsJournal-opened : (p : PatternView) → IsJournal (opened p)
+pub IsJournal-opened : (p : PatternView) → IsJournal (new_journal p)
 IsJournal-opened p =
     record {
       current = omega arith;
@@ -112,7 +112,7 @@ IsJournal-redone_to : (j k : JournalView) (ns : List ℕ) → IsJournal j → j.
 IsJournal-redone_to j k [] h e found = cc
 IsJournal-redone_to j k (n ∷ ns) h e found =
     let redo : IsRedoable (length j.versions) (n ∷ ns) = subst (IsRedoable (length j.versions)) e h.redo in
-    let chain : IsChain j j.current (n ∷ ns) = subst (IsChain j j.current) e h.chain in
+    let chain : IsMadeInTurn j j.current (n ∷ ns) = subst (IsMadeInTurn j j.current) e h.chain in
     let next : JournalView = record { versions = j.versions; current = n; redo = ns } in
     let same : next ≡ k = cc in
     let P : JournalView → Type 0 = λ i. IsJournal i × (undone i ≡ j) in

@@ -14,8 +14,8 @@ pub record JournalView : Type 0 where
   pub redo : List ℕ
 
 -- version 0 alone
-abbrev pub opened : PatternView → JournalView
-opened first = record { versions = record { pattern = first; parent = 0 } ∷ []; current = 0; redo = [] }
+abbrev pub new_journal : PatternView → JournalView
+new_journal first = record { versions = record { pattern = first; parent = 0 } ∷ []; current = 0; redo = [] }
 
 abbrev pub pattern_at : JournalView → ℕ → Option PatternView
 pattern_at j version = option_map (λ v. v.pattern) (slice_get j.versions version)

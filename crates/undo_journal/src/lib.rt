@@ -3,7 +3,7 @@
 #![tactic(auto)]
 
 ghost use Rattle.std.specs.Prelude.{◌≡◌, ℕ, [], ◌-◌, ◌<◌, ◌↔◌, length, IfOk, IfErr, OnOk, OnErr, IsErr, IsErrOf, MatchResult, MatchOption, IsNone, Some, None};
-ghost use Rattle.undo_journal.specs.Versions.{greatest_version, opened, committed, undone, redone, greatest_of, pattern_at, current_pattern, KeepsPatterns};
+ghost use Rattle.undo_journal.specs.Versions.{greatest_version, new_journal, committed, undone, redone, greatest_of, pattern_at, current_pattern, KeepsPatterns};
 
 use crease_model::Pattern;
 use std::alloc::{AllocError, AllocFailed, Global};
@@ -100,7 +100,7 @@ impl Model for Journal {
 impl Journal {
     /// The journal whose version 0 is this pattern.
     pub fn open(alloc: Global, first: Pattern) -> Result<Journal, AllocError>
-        ensures { IfOk result (λ journal. journal ≡ opened first) }
+        ensures { IfOk result (λ journal. journal ≡ new_journal first) }
     {
         let redo = Vec::with_capacity(alloc, 1)?;
         let mut versions = Vec::with_capacity(alloc, 1)?;

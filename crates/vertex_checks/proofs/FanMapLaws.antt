@@ -8,7 +8,7 @@ use Rattle.crease_model.specs.declared.Piece.{Piece}
 use Rattle.line_split.specs.SortedLaws.{equal_is}
 use Rattle.vertex_checks.specs.declared.fans.Ray.{Ray}
 use Rattle.vertex_checks.specs.Fan.{ray_of, ray_at, with_ray, with_ray_if}
-use Rattle.vertex_checks.specs.FanMap.{equal_points}
+use Rattle.line_split.specs.Points.{equal_points}
 use Rattle.vertex_checks.proofs.FanLaws.{same_point, same_itself, low, high, onward, back, begins, arrives, ends_differ}
 
 -- both rays of a piece, the second after the first, are the one at each point

@@ -8,8 +8,7 @@ use Rattle.std.specs.declared.cmp.Ordering.TheVariants.{Less}
 use Rattle.std.proofs.lemmas.Bool.{cond_both}
 use Rattle.std.proofs.lemmas.Map.Keys.{Less-from_sorted}
 use Rattle.surd_number.specs.declared.Sgn.TheVariants.{Pos}
-use Rattle.surd_number.specs.Number.{ordering_of}
-use Rattle.surd_number.specs.SignLaws.{opposite_sign}
+use Rattle.surd_number.specs.Number.{ordering_of, opposite_sign}
 use Rattle.plane_geometry.specs.declared.Point.{Point}
 use Rattle.plane_geometry.specs.Position.{position_of, compare_positions}
 use Rattle.plane_geometry.specs.SideLaws.{order_self, order_turned, compare_is}

@@ -11,7 +11,7 @@ use Rattle.crease_model.specs.Sheet.{place_of}
 use Rattle.crease_model.specs.View.{PatternView}
 use Rattle.line_split.specs.MemberLaws.{Member, member, contained, member_left, member_right, member_either}
 use Rattle.line_split.specs.SortedLaws.{sorted_once}
-use Rattle.vertex_checks.specs.FanMap.{equal_points}
+use Rattle.line_split.specs.Points.{equal_points}
 use Rattle.vertex_checks.specs.Vertices.{is_inside, inner_point, inner_ends, inner_ends_of, vertices_of}
 use Rattle.crease_model.specs.Rules.{IsEndOf}
 use Rattle.vertex_checks.proofs.SortedLists.{member_flat, flat_member}

@@ -4,7 +4,7 @@ use Rattle.std.specs.Option.{option_map_or}
 use Rattle.indexmap.specs.IndexMap.{IndexMap, get}
 use Rattle.smallvec.specs.SmallVec.{SmallVec}
 use Rattle.plane_geometry.specs.declared.Point.{Point}
-pub use Rattle.line_split.specs.Points.{equal_points}
+use Rattle.line_split.specs.Points.{equal_points}
 use Rattle.vertex_checks.specs.declared.fans.Ray.{Ray}
 
 -- the rays that are kept for a point, none where it has no entry

@@ -85,7 +85,7 @@ fn push_fan(faults: &mut Vec<VertexFault>, v: &Point, fan: &[Ray]) -> Result<(),
     push_little_faults(faults, v, fan)
 }
 
-pub(crate) fn push_vertex(
+fn push_vertex(
     faults: &mut Vec<VertexFault>,
     pieces: &[Piece],
     fans: &Fans,

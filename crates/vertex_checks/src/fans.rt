@@ -4,7 +4,8 @@ ghost use Rattle.std.specs.Prelude.{◌≡◌, ◌+◌, ◌≤◌, ◌<◌, leng
 ghost use Rattle.plane_geometry.specs.declared.Point.{Point};
 ghost use Rattle.plane_geometry.specs.DirView.{dir_number, dir_of};
 ghost use Rattle.vertex_checks.specs.Fan.{ray_of, ray_at, with_ray, with_ray_if, fan_from, fan_of};
-ghost use Rattle.vertex_checks.specs.FanMap.{equal_points, kept_fan};
+ghost use Rattle.vertex_checks.specs.FanMap.{kept_fan};
+ghost use Rattle.line_split.specs.Points.{equal_points};
 
 use crease_model::{Kind, Piece};
 use indexmap::IndexMap;

@@ -25,7 +25,7 @@ use Rattle.face_builder.specs.MapRules.{IsShared, AreFaces}
 use Rattle.face_builder.specs.View.{FaceMapView}
 use Rattle.wireframe_fold.specs.declared.faults.WireFault.{WireFault}
 use Rattle.wireframe_fold.specs.declared.faults.WireFault.TheVariants.{DoesNotClose, FoldRange, TooManyLines, Memory}
-use Rattle.wireframe_fold.specs.Folding.{motion_at, mirror_in, IsClosed, IsFolding}
+use Rattle.wireframe_fold.specs.Folding.{motion_at, mirror_in, IsClosedAt, IsFolding}
 use Rattle.wireframe_fold.specs.Lines.{IsThrough, folded_sides, HasDifferent, HasLines}
 use Rattle.wireframe_fold.specs.Shape.{HasPointOut, AreFoldedFaces}
 use Rattle.wireframe_fold.specs.Fold.{IsShape, HasNoFolding, IsOpenAt, IsOutAt, IsWireFault, HasMemory}
@@ -53,7 +53,7 @@ neither_less i j h k = omega (arith, h, k)
 -- ---- a piece that is closed by one family is closed by one that is the same
 
 closed_alike : (ts us : List Motion) (s : SharedPiece) → IsSameMap (motion_at ts s.a) (motion_at us s.a)
-    → IsSameMap (motion_at ts s.b) (motion_at us s.b) → IsClosed us s → IsClosed ts s
+    → IsSameMap (motion_at ts s.b) (motion_at us s.b) → IsClosedAt us s → IsClosedAt ts s
 closed_alike ts us s at_a at_b h =
     let r = mirror_in s.segment in
     let t = motion_at ts s.a in
@@ -144,7 +144,7 @@ module _ (m : FaceMapView) (rules : AreFaces m) where
 
   -- a shared piece is closed by one of two families that are alike where it is by the other
   closed_by_other : (ts us : List Motion) → MoveAlike m ts us → (s : SharedPiece) → Member m.shared s
-      → IsClosed us s → IsClosed ts s
+      → IsClosedAt us s → IsClosedAt ts s
   closed_by_other ts us alike s at closed =
       let x = all_member (IsShared m.faces) m.shared s rules.shared at in
       closed_alike ts us s (alike s.a x.first (omega (arith, x.order, x.last)))
@@ -161,10 +161,10 @@ module _ (m : FaceMapView) (rules : AreFaces m) where
       let s = h.2.1 in
       let at = stands_there k s h.2.2 in
       h.2.3 (closed_by_other ts us (folding_is_along_walk m ts us rules h.1 folding) s at
-      (All-contains (IsClosed us) m.shared s folding.closed (contained m.shared s at)))
+      (All-contains (IsClosedAt us) m.shared s folding.closed (contained m.shared s at)))
 
   not_before : (ts us : List Motion) → MoveAlike m ts us → (k j : ℕ) (s : SharedPiece)
-      → slice_get m.shared k ≡ Some s → (¬ IsClosed ts s) → All (IsClosed us) (take j m.shared) → k < j
+      → slice_get m.shared k ≡ Some s → (¬ IsClosedAt ts s) → All (IsClosedAt us) (take j m.shared) → k < j
       → j ≤ length m.shared → ⊥
   not_before ts us alike k j s at opened closed less few =
       let size : length (take j m.shared) ≡ j = length-take-le j m.shared few in
@@ -174,7 +174,7 @@ module _ (m : FaceMapView) (rules : AreFaces m) where
         get_or-take j m.shared k s less ∙ get_or_from_slice_get m.shared k s s at,
       ) in
       opened (closed_by_other ts us alike s (stands_there k s at)
-      (All-contains (IsClosed us) (take j m.shared) s closed there))
+      (All-contains (IsClosedAt us) (take j m.shared) s closed there))
 
   one_open : (c d : ℕ) → IsOpenAt m c → IsOpenAt m d → c ≡ d
   one_open c d h g =

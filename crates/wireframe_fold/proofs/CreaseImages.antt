@@ -29,7 +29,7 @@ use Rattle.face_builder.specs.declared.shared.SharedPiece.{SharedPiece}
 use Rattle.face_builder.specs.MapRules.{IsSideOf, IsShared, AreFaces}
 use Rattle.face_builder.specs.View.{FaceMapView, corners_at}
 use Rattle.wireframe_fold.specs.Crease.{HasImage, HasSharedEnds, IsCreaseImage, IsSharedImage}
-use Rattle.wireframe_fold.specs.Folding.{motion_at, mirror_in, IsClosed}
+use Rattle.wireframe_fold.specs.Folding.{motion_at, mirror_in, IsClosedAt}
 use Rattle.wireframe_fold.specs.Shape.{AreFoldedFaces}
 use Rattle.wireframe_fold.proofs.FaceLists.{has_image, folded_face_at}
 use Rattle.wireframe_fold.proofs.Maps.{image_same, same_vector-trans, same_vector-sym}
@@ -100,7 +100,7 @@ image_across t u r p q h stays at =
     (same_vector-trans (image_by u x) (image_by t (image_by r x)) (image_by t x) (h x)
     (image_same t (image_by r x) x stays)))
 
-pub by_other_face : (ts : List Motion) (s : SharedPiece) (image : Segment) → IsClosed ts s
+pub by_other_face : (ts : List Motion) (s : SharedPiece) (image : Segment) → IsClosedAt ts s
     → IsCreaseImage (motion_at ts s.a) s.segment image → IsCreaseImage (motion_at ts s.b) s.segment image
 by_other_face ts s image closed h =
     let t = motion_at ts s.a in

@@ -18,23 +18,23 @@ use Rattle.face_builder.specs.MapRules.{AreFaces}
 use Rattle.face_builder.specs.View.{FaceMapView}
 use Rattle.wireframe_fold.specs.declared.faults.WireFault.{WireFault}
 use Rattle.wireframe_fold.specs.declared.faults.WireFault.TheVariants.{DoesNotClose, FoldRange, TooManyLines, Memory}
-use Rattle.wireframe_fold.specs.Folding.{motions_of, IsClosed, IsFolding, AreAlongWalk}
+use Rattle.wireframe_fold.specs.Folding.{motions_of, IsClosedAt, IsFolding, AreAlongWalk}
 use Rattle.wireframe_fold.specs.Shape.{IsFoldedFace, AreFoldedFaces}
 use Rattle.wireframe_fold.specs.Fold.{IsShapeBy, HasTooManyLines, IsShapeFault, IsShape, IsWireFault, IsSideKeeping, KeepsSides}
 use Rattle.wireframe_fold.proofs.ConvexFaces.{IsFew, motions_linear, folded_convex}
 
 folding_by : (m : FaceMapView) (ms : List Isometry) → AreAlongWalk m (motions_of ms)
-    → All (IsClosed (motions_of ms)) m.shared → IsFolding m (motions_of ms)
+    → All (IsClosedAt (motions_of ms)) m.shared → IsFolding m (motions_of ms)
 folding_by m ms along closed =
     record { count = along.count; linear = motions_linear ms; fixed = along.fixed; closed = closed }
 
 -- the same of slices that the code makes
 pub folding_found : (m : FaceMapView) (ms slice first : List Isometry) (shared : List SharedPiece) → slice ≡ ms
     → first ≡ ms → shared ≡ m.shared → AreAlongWalk m (motions_of ms)
-    → All (IsClosed (motions_of first)) shared → IsFolding m (motions_of slice)
+    → All (IsClosedAt (motions_of first)) shared → IsFolding m (motions_of slice)
 folding_found m ms slice first shared at_slice at_first at_shared along closed =
-    let P : List Isometry → Type 0 = λ ns. All (IsClosed (motions_of ns)) m.shared in
-    let Q : List SharedPiece → Type 0 = λ ss. All (IsClosed (motions_of first)) ss in
+    let P : List Isometry → Type 0 = λ ns. All (IsClosedAt (motions_of ns)) m.shared in
+    let Q : List SharedPiece → Type 0 = λ ss. All (IsClosedAt (motions_of first)) ss in
     let R : List Isometry → Type 0 = λ ns. IsFolding m (motions_of ns) in
     subst R (sym at_slice) (folding_by m ms along (subst P at_first (subst Q at_shared closed)))
 

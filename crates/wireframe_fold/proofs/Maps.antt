@@ -31,7 +31,7 @@ use Rattle.plane_geometry.specs.MeetLaws.{on_line_from_offset}
 use Rattle.isometry_map.specs.Linear.{reflection}
 use Rattle.isometry_map.specs.Matrix.{matrix_of, image_of}
 use Rattle.isometry_map.specs.Motion.{Motion, image_by, IsSameMap, IsComposition, IsShiftWithin, identity_motion, reflection_at}
-use Rattle.wireframe_fold.specs.Folding.{motions_of, motion_at, mirror_in, AreWithin, IsClosed, IsStepTo}
+use Rattle.wireframe_fold.specs.Folding.{motions_of, motion_at, mirror_in, AreWithin, IsClosedAt, IsStepTo}
 use Rattle.wireframe_fold.proofs.Walked.{AreWalked, AreWalkedFromStart}
 
 -- ---- maps
@@ -130,10 +130,10 @@ same_says s t =
 
 pub closed_says : (ts : List Motion) (s : SharedPiece) (u r a : Motion) (b : Bool) → u ≡ motion_at ts s.b
     → a ≡ motion_at ts s.a → IsComposition r a (mirror_in s.segment) → (IsTrue b ↔ IsSameMap u r)
-    → (IsTrue b ↔ IsClosed ts s)
+    → (IsTrue b ↔ IsClosedAt ts s)
 closed_says ts s u r a b at_u at_a h same = (to, from)
   where
-    to : IsTrue b → IsClosed ts s
+    to : IsTrue b → IsClosedAt ts s
     to e =
         let P : Motion → Type 0 = λ v. IsComposition v (motion_at ts s.a) (mirror_in s.segment) in
         let Q : Motion → Type 0 = λ v. IsComposition u v (mirror_in s.segment) in
@@ -142,7 +142,7 @@ closed_says ts s u r a b at_u at_a h same = (to, from)
               (subst Q at_a (same_composition u r a (mirror_in s.segment) (same.0 e) h));
         }
 
-    from : IsClosed ts s → IsTrue b
+    from : IsClosedAt ts s → IsTrue b
     from k =
         let P : Motion → Type 0 = λ v. IsComposition v (motion_at ts s.a) (mirror_in s.segment) in
         let Q : Motion → Type 0 = λ v. IsComposition u v (mirror_in s.segment) in

@@ -20,7 +20,7 @@ use Rattle.face_builder.specs.declared.walk.Step.{Step}
 use Rattle.face_builder.specs.MapRules.{AreAcross, IsWalk, AreFaces}
 use Rattle.face_builder.specs.View.{FaceMapView}
 use Rattle.face_builder.specs.Walk.{has_step_to, is_reached}
-use Rattle.wireframe_fold.specs.Folding.{motion_at, mirror_in, IsAcross, IsClosed, IsTaken, IsFolding, AreAlongWalk}
+use Rattle.wireframe_fold.specs.Folding.{motion_at, mirror_in, IsAcross, IsClosedAt, IsStepTaken, IsFolding, AreAlongWalk}
 use Rattle.wireframe_fold.specs.Laws.{MoveAlike, FoldingIsOne, FoldingIsAlongWalk}
 use Rattle.wireframe_fold.proofs.Maps.{image_same, same_vector-trans, same_vector-sym}
 use Rattle.wireframe_fold.proofs.Steps.{crossing, reached_later, just_reached, reached_cases}
@@ -106,7 +106,7 @@ same_across t t' u u' r same h k =
     (same_vector-sym (image_by u' x) (image_by u (image_by r x)) (k x)))
 
 -- the piece leads from either face to the other
-crossed : (us : List Motion) (p : SharedPiece) (f g : ℕ) → IsClosed us p → AreAcross p f g
+crossed : (us : List Motion) (p : SharedPiece) (f g : ℕ) → IsClosedAt us p → AreAcross p f g
     → IsAcross us f p.segment (motion_at us g)
 crossed us p f g h (inl pair) =
     let r = mirror_in p.segment in
@@ -130,11 +130,11 @@ module _ (m : FaceMapView) (rules : AreFaces m) where
       record { count = folding.count; fixed = folding.fixed; taken = all_taken [] m.walk rules.walk }
     where
       all_taken : (before steps : List Step) → IsWalk m.shared before steps
-          → AllByRecursion (IsTaken m.shared us) steps
+          → AllByRecursion (IsStepTaken m.shared us) steps
       all_taken before [] w = tt
       all_taken before (s ∷ steps) w =
           let c = crossing m rules before s w.0 in
-          let closed = All-contains (IsClosed us) m.shared c.piece folding.closed
+          let closed = All-contains (IsClosedAt us) m.shared c.piece folding.closed
           (contained m.shared c.piece c.held) in (
             record {
               piece = c.piece;
@@ -161,7 +161,7 @@ module _ (m : FaceMapView) (rules : AreFaces m) where
         ]
 
     alike_on : (before steps : List Step) → IsWalk m.shared before steps
-        → AllByRecursion (IsTaken m.shared ts) steps → AllByRecursion (IsTaken m.shared us) steps
+        → AllByRecursion (IsStepTaken m.shared ts) steps → AllByRecursion (IsStepTaken m.shared us) steps
         → ((f : ℕ) → is_reached before f ≡ true → Alike f) → (f : ℕ)
         → (is_reached before f ≡ true) ⊎ (has_step_to steps f ≡ true) → Alike f
     alike_on before [] w h k start f (inl e) = start f e

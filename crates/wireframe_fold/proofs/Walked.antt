@@ -10,7 +10,7 @@ use Rattle.face_builder.specs.declared.walk.Step.{Step}
 use Rattle.face_builder.specs.MapRules.{IsWalk, AreFaces}
 use Rattle.face_builder.specs.View.{FaceMapView}
 use Rattle.face_builder.specs.Walk.{is_reached}
-use Rattle.wireframe_fold.specs.Folding.{motion_at, mirror_in, IsStepTo, IsTaken, AreAlongWalk}
+use Rattle.wireframe_fold.specs.Folding.{motion_at, mirror_in, IsStepTo, IsStepTaken, AreAlongWalk}
 use Rattle.wireframe_fold.proofs.Steps.{crossing, reached_later, just_reached, apart}
 
 -- us come of ts along these steps
@@ -39,7 +39,7 @@ module _ (m : FaceMapView) (rules : AreFaces m) where
       ∙ get_or-set_other ts (s.face - 1) (f - 1) h.0 identity_motion (apart m rules before s w.0 f e)
 
   steps_taken : (before steps : List Step) (ts us : List Motion) → IsWalk m.shared before steps
-      → length ts ≡ length m.faces → AreWalked m.shared ts steps us → AllByRecursion (IsTaken m.shared us) steps
+      → length ts ≡ length m.faces → AreWalked m.shared ts steps us → AllByRecursion (IsStepTaken m.shared us) steps
   steps_taken before [] ts us w count h = tt
   steps_taken before (s ∷ steps) ts us w count h =
       let t = h.0 in

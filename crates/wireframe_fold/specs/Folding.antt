@@ -37,15 +37,15 @@ pub record IsAcross (ts : List Motion) (face : ℕ) (crease : Segment) (t : Moti
   pub composed : IsComposition t (motion_at ts face) (mirror_in crease)
 
 -- the isometries on the two sides of the piece differ by the reflection in it
-abbrev pub IsClosed : List Motion → SharedPiece → Type 0
-IsClosed ts s = IsAcross ts s.a s.segment (motion_at ts s.b)
+abbrev pub IsClosedAt : List Motion → SharedPiece → Type 0
+IsClosedAt ts s = IsAcross ts s.a s.segment (motion_at ts s.b)
 
 -- a flat folding
 pub record IsFolding (m : FaceMapView) (ts : List Motion) : Type 0 where
   pub count : length ts ≡ length m.faces
   pub linear : All (λ t. t.linear < 16) ts
   pub fixed : IsIdentity (motion_at ts 1)
-  pub closed : All (IsClosed ts) m.shared
+  pub closed : All (IsClosedAt ts) m.shared
 
 -- ---- along the walk
 
@@ -56,14 +56,14 @@ pub record IsStepTo (shared : List SharedPiece) (ts : List Motion) (s : Step) (t
   pub across : IsAcross ts s.from piece.segment t
 
 -- the face that the step leads to has this one
-abbrev pub IsTaken : List SharedPiece → List Motion → Step → Type 0
-IsTaken shared ts s = IsStepTo shared ts s (motion_at ts s.face)
+abbrev pub IsStepTaken : List SharedPiece → List Motion → Step → Type 0
+IsStepTaken shared ts s = IsStepTo shared ts s (motion_at ts s.face)
 
 -- the isometries along the walk: face 1 stays, and each step is taken
 pub record AreAlongWalk (m : FaceMapView) (ts : List Motion) : Type 0 where
   pub count : length ts ≡ length m.faces
   pub fixed : IsIdentity (motion_at ts 1)
-  pub taken : AllByRecursion (IsTaken m.shared ts) m.walk
+  pub taken : AllByRecursion (IsStepTaken m.shared ts) m.walk
 
 -- the places that a step names are there
 pub record IsStepWithin (m : FaceMapView) (s : Step) : Type 0 where
@@ -79,5 +79,5 @@ pub record IsStepWithin (m : FaceMapView) (s : Step) : Type 0 where
 -- c is the number of the first of these pieces across which they don't differ by the reflection in it
 abbrev pub IsLeastOpen : List Motion → List SharedPiece → ℕ → Type 0
 IsLeastOpen ts shared c =
-    (k : ℕ) × (s : SharedPiece) × (slice_get shared k ≡ Some s) × (¬ IsClosed ts s) × (s.piece ≡ c)
-    × All (IsClosed ts) (take k shared)
+    (k : ℕ) × (s : SharedPiece) × (slice_get shared k ≡ Some s) × (¬ IsClosedAt ts s) × (s.piece ≡ c)
+    × All (IsClosedAt ts) (take k shared)

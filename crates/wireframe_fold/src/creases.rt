@@ -6,7 +6,7 @@ ghost use Rattle.plane_geometry.specs.SegmentView.{lesser_end, greater_end};
 ghost use Rattle.isometry_map.specs.Motion.{IsShiftWithin};
 ghost use Rattle.isometry_map.specs.IsometryView.{motion_of};
 ghost use Rattle.isometry_map.specs.Folded.{IsImage};
-ghost use Rattle.wireframe_fold.specs.Folding.{motions_of, AreWithin, HasPlaces, IsClosed};
+ghost use Rattle.wireframe_fold.specs.Folding.{motions_of, AreWithin, HasPlaces, IsClosedAt};
 ghost use Rattle.wireframe_fold.specs.Crease.{HasImage, HasEndImages, HasSharedEnds, IsCreaseImage, IsSharedImage, AreSharedImages};
 
 use crate::motions::face_motion;
@@ -46,7 +46,7 @@ fn folded_crease(motion: &Isometry, crease: &Segment) -> Segment
 fn shared_image(motions: &[Isometry], shared: &SharedPiece) -> CreaseImage
     requires places { HasPlaces (length motions.now) shared.now }
     requires within { AreWithin (2 ^ 65) motions.now }
-    requires closed { IsClosed (motions_of motions.now) shared.now }
+    requires closed { IsClosedAt (motions_of motions.now) shared.now }
     requires images { HasSharedEnds (motions_of motions.now) shared.now }
     ensures { IsSharedImage (motions_of motions.now) shared.now result }
 {
@@ -66,7 +66,7 @@ pub fn shared_images(
 ) -> Result<Vec<CreaseImage>, AllocError>
     requires places { All (HasPlaces (length motions.now)) shared.now }
     requires within { AreWithin (2 ^ 65) motions.now }
-    requires closed { All (IsClosed (motions_of motions.now)) shared.now }
+    requires closed { All (IsClosedAt (motions_of motions.now)) shared.now }
     requires images { All (HasSharedEnds (motions_of motions.now)) shared.now }
     ensures { IfOk result (λ v. AreSharedImages (motions_of motions.now) shared.now v.items) }
 {

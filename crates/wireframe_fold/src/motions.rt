@@ -6,7 +6,7 @@ ghost use Rattle.isometry_map.specs.Motion.{IsComposition, IsReflection, IsSameM
 ghost use Rattle.isometry_map.specs.IsometryView.{motion_of};
 ghost use Rattle.face_builder.specs.Faces.{most_faces};
 ghost use Rattle.face_builder.specs.MapRules.{AreFaces};
-ghost use Rattle.wireframe_fold.specs.Folding.{motions_of, motion_at, mirror_in, AreWithin, IsStepTo, HasPlaces, IsStepWithin, IsClosed, AreAlongWalk, IsLeastOpen};
+ghost use Rattle.wireframe_fold.specs.Folding.{motions_of, motion_at, mirror_in, AreWithin, IsStepTo, HasPlaces, IsStepWithin, IsClosedAt, AreAlongWalk, IsLeastOpen};
 
 use face_builder::{FaceMap, SharedPiece, Step};
 use isometry_map::Isometry;
@@ -103,7 +103,7 @@ pub fn along_walk(alloc: Global, faces: &FaceMap) -> Result<Vec<Isometry>, Alloc
 fn is_closed(motions: &[Isometry], shared: &SharedPiece) -> bool
     requires places { HasPlaces (length motions.now) shared.now }
     requires within { AreWithin (2 ^ 65) motions.now }
-    ensures { IsTrue result ↔ IsClosed (motions_of motions.now) shared.now }
+    ensures { IsTrue result ↔ IsClosedAt (motions_of motions.now) shared.now }
 {
     let there = across(face_motion(motions, shared.a), &shared.segment);
     is_same(face_motion(motions, shared.b), &there)
@@ -113,7 +113,7 @@ fn is_closed(motions: &[Isometry], shared: &SharedPiece) -> bool
 pub fn first_open(motions: &[Isometry], shared: &[SharedPiece]) -> Option<u32>
     requires places { All (HasPlaces (length motions.now)) shared.now }
     requires within { AreWithin (2 ^ 65) motions.now }
-    ensures { MatchOption result (All (IsClosed (motions_of motions.now)) shared.now)
+    ensures { MatchOption result (All (IsClosedAt (motions_of motions.now)) shared.now)
         (λ c. IsLeastOpen (motions_of motions.now) shared.now c) }
 {
     for piece in shared {

@@ -57,24 +57,18 @@ fn directions(alloc: Global, corners: &[Point]) -> Result<Option<Vec<Dir>>, Allo
     Ok(Some(directions))
 }
 
-fn turn(before: Dir, after: Dir) -> u8
-    ensures { result ≡ turn_of (dir_number before) (dir_number after) }
-{
-    (after.number() + 16 - before.number()) % 16
-}
-
 /// Whether no side turns right or back from the one before it.
 fn turns_left(first: Dir, rest: &[Dir]) -> bool
     ensures { result ≡ list_all is_convex_turn (turns_of (map dir_number (first ∷ rest.now))) }
 {
     let mut before = first;
     for d in rest {
-        if turn(before, *d) > 7 {
+        if before.turn_to(*d) > 7 {
             return false;
         }
         before = *d;
     }
-    turn(before, first) <= 7
+    before.turn_to(first) <= 7
 }
 
 /// Whether the sides turn round once.
@@ -84,13 +78,13 @@ fn turns_round(first: Dir, rest: &[Dir]) -> bool
     let mut before = first;
     let mut turns = 0;
     for d in rest {
-        turns += turn(before, *d);
+        turns += before.turn_to(*d);
         if turns > 16 {
             return false;
         }
         before = *d;
     }
-    turns + turn(before, first) == 16
+    turns + before.turn_to(first) == 16
 }
 
 fn is_round(directions: &[Dir]) -> bool

@@ -1,9 +1,8 @@
 //! Tables of scripts with their commands, and of replies with their texts, worked by hand.
 
-use cp_text::{CpLine, LineFault, write_line, write_number};
+use cp_text::{CpLine, LineFault, append_number, write_line, write_number};
 use crease_model::Kind;
 use crease_store::StoreRefusal;
-use itoa::Buffer;
 use plane_geometry::{Dir, Point};
 use script_lang::{
     Command, Commands, Corners, LoadCause, LoadLines, LoadStop, Refusal, Reply, is_load,
@@ -84,7 +83,7 @@ fn put_set(out: &mut Vec<u8>, kind: Kind, from: &Point, to: &Point) -> Result<()
 
 fn put_number(out: &mut Vec<u8>, word: &[u8], n: u64) -> Result<(), AllocError> {
     out.extend_from_slice(word)?;
-    out.extend_from_slice(Buffer::new().format(n).as_bytes())?;
+    append_number(out, n)?;
     out.extend_from_slice(b"\n")
 }
 

@@ -7,11 +7,11 @@ use Rattle.std.proofs.lemmas.List.Elements.{All-set, All-map}
 use Rattle.std.proofs.lemmas.Option.{get_or_from_slice_get, slice_get_within}
 use Rattle.sign_rules.specs.Rules.{RulesView}
 use Rattle.sign_rules.specs.declared.sign.Sign.{Sign}
-use Rattle.sign_rules.specs.Signs.{OrderView, order_of}
+use Rattle.sign_rules.specs.Signs.{OrderView, bare_order}
 use Rattle.sign_rules.specs.Rules.{is_consistent}
 use Rattle.search_cursor.specs.Place.{begins_with}
 use Rattle.search_cursor.specs.PlaceLaws.{begins_with-append}
-use Rattle.order_search.specs.Invariant.{IsWithin}
+use Rattle.order_search.specs.Invariant.{IsConsistentWithin}
 use Rattle.worker_split.specs.Pieces.{pieces_of}
 use Rattle.worker_split.proofs.Splits.{pieces-consistent, one_piece}
 use Rattle.worker_split.specs.declared.outcome.Outcome.{Outcome}
@@ -44,7 +44,7 @@ IsPiece-asked r budget p some piece = record {
 pub IsPiece-answered : (r : RulesView) (p : Piece) (budget : ℕ) (t : TaskView) (end : End) → IsPiece r p → t.rules ≡ r
     → t.prefix ≡ p.prefix.list → IsRightEnd t end → IsPiece r (answered_piece p budget end)
 IsPiece-answered r p budget t (Found order position) piece rules prefix right = record {
-  within = subst (λ l. IsWithin r l position.signs.list) prefix (subst (λ q. IsWithin q t.prefix position.signs.list) rules right.1);
+  within = subst (λ l. IsConsistentWithin r l position.signs.list) prefix (subst (λ q. IsConsistentWithin q t.prefix position.signs.list) rules right.1);
   consistent = piece.consistent;
   budget = λ asked e. absurd (cc);
 }
@@ -54,7 +54,7 @@ IsPiece-answered r p budget t Done piece rules prefix right = record {
   budget = λ asked e. absurd (cc);
 }
 IsPiece-answered r p budget t (Paused position) piece rules prefix right = record {
-  within = subst (λ l. IsWithin r l position.signs.list) prefix (subst (λ q. IsWithin q t.prefix position.signs.list) rules right.2);
+  within = subst (λ l. IsConsistentWithin r l position.signs.list) prefix (subst (λ q. IsConsistentWithin q t.prefix position.signs.list) rules right.2);
   consistent = piece.consistent;
   budget = λ asked e. absurd (cc);
 }
@@ -204,7 +204,7 @@ closed-none Waiting ask other = refl
 
 -- ---- new jobs
 
-pub mapped_new : (lists : List (List Sign)) → map (λ (o : OrderView). new_piece o.list) (map order_of lists) ≡ map new_piece lists
+pub mapped_new : (lists : List (List Sign)) → map (λ (o : OrderView). new_piece o.list) (map bare_order lists) ≡ map new_piece lists
 mapped_new [] = refl
 mapped_new (l ∷ lists) = ap (λ ps. new_piece l ∷ ps) (mapped_new lists)
 
@@ -229,7 +229,7 @@ IsJob-opened r = record {
 -- a loop that made a piece for each prefix
 pub made_pieces : (made : List Piece) (prefixes : List OrderView) (n : ℕ) (lists : List (List Sign))
     → made ++ map (λ (o : OrderView). new_piece o.list) (drop n prefixes) ≡ map (λ (o : OrderView). new_piece o.list) prefixes
-    → length prefixes ≤ n → prefixes ≡ map order_of lists → made ≡ map new_piece lists
+    → length prefixes ≤ n → prefixes ≡ map bare_order lists → made ≡ map new_piece lists
 made_pieces made prefixes n lists invariant below is =
     sym (append-nil made)
     ∙ sym (at_drop_all (λ (l : List OrderView). made ++ map (λ (o : OrderView). new_piece o.list) l) prefixes n below)

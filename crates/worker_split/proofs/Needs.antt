@@ -12,7 +12,7 @@ use Rattle.worker_split.specs.declared.piece.PieceEnd.{PieceEnd}
 use Rattle.worker_split.specs.declared.piece.PieceEnd.TheVariants.{Open, Ready, Done as Finished}
 use Rattle.worker_split.specs.declared.piece.LastTask.{LastTask}
 use Rattle.worker_split.specs.declared.piece.LastTask.TheVariants.{Never, Asked, Answered}
-use Rattle.worker_split.specs.Job.{JobView, piece_at, task_by, task_from, task_at, Matches, answered_piece, posted, posted_to, done_before, end_answer, answer_from, next_answer, waits_for}
+use Rattle.worker_split.specs.Job.{JobView, piece_at, task_by, task_of_piece, task_at, Matches, answered_piece, posted, posted_to, done_before, end_answer, piece_answer, next_answer, waits_for}
 use Rattle.worker_split.specs.Invariant.{HasBudget, WasAsked}
 use Rattle.worker_split.specs.Waiting.{is_unanswered, waiting}
 use Rattle.worker_split.proofs.Jobs.{at_place, match_of, piece_asked}
@@ -44,14 +44,14 @@ needed_task j needed some asked is =
     by_end p Open (Answered budget) e f g = tt
     by_end p Open Never e f g = absurd (by_ask j.ask p refl some f g (piece_asked j (n + 1) p asked (at p e)))
     by_end p Open (Asked budget) e f g =
-        let task = ap (λ b. cond b (task_from j (n + 1) (piece_at j (n + 1))) None) some
-        ∙ ap (task_from j (n + 1)) (at p e)
+        let task = ap (λ b. cond b (task_of_piece j (n + 1) (piece_at j (n + 1))) None) some
+        ∙ ap (task_of_piece j (n + 1)) (at p e)
         ∙ ap (λ x. task_by j (n + 1) p x p.last) f
         ∙ ap (task_by j (n + 1) p Open) g in
         subst IsSome (sym task) refl
 
     by_piece : (o : Option Piece) → slice_get j.pieces n ≡ o
-        → IfSome (waits_for (answer_from (n + 1) o)) (λ piece. IsSome (task_at j piece))
+        → IfSome (waits_for (piece_answer (n + 1) o)) (λ piece. IsSome (task_at j piece))
     by_piece None e = tt
     by_piece (Some p) e = by_end p p.end p.last e refl refl
 

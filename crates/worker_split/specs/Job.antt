@@ -2,9 +2,9 @@
 use Rattle.std.specs.Prelude.{◌≡◌, ℕ, ◌+◌, ◌-◌, ◌==◌, Bool, true, false, if◌then◌else◌, List, length, map, Option, None, Some, is_some, slice_get, slice_set}
 use Rattle.std.specs.List.{prefix_len}
 use Rattle.sign_rules.specs.declared.sign.Sign.{Sign}
-use Rattle.sign_rules.specs.Signs.{order_of}
+use Rattle.sign_rules.specs.Signs.{bare_order}
 use Rattle.sign_rules.specs.Rules.{RulesView}
-use Rattle.search_cursor.specs.Place.{place_of}
+use Rattle.search_cursor.specs.Place.{search_place}
 use Rattle.worker_split.specs.declared.outcome.Outcome.{Outcome}
 use Rattle.worker_split.specs.declared.outcome.End.{End}
 use Rattle.worker_split.specs.declared.outcome.End.TheVariants.{Found, Done, Paused}
@@ -32,14 +32,14 @@ pub record JobView : Type 0 where
 -- a piece that nothing was asked of stands before all that begins with its prefix
 abbrev pub new_piece : List Sign → Piece
 new_piece prefix = record {
-  prefix = order_of prefix;
-  kept = record { signs = order_of prefix; past = false };
+  prefix = bare_order prefix;
+  kept = record { signs = bare_order prefix; past = false };
   end = Open;
   last = Never;
 }
 
-abbrev pub opened : ℕ → ℕ → RulesView → ℕ → JobView
-opened job version rules most = record {
+abbrev pub opened_job : ℕ → ℕ → RulesView → ℕ → JobView
+opened_job job version rules most = record {
   job = job;
   version = version;
   rules = rules;
@@ -75,7 +75,7 @@ task_with j piece p budget = record {
   piece = piece;
   rules = j.rules;
   prefix = p.prefix.list;
-  from = place_of p.kept;
+  from = search_place p.kept;
   budget = budget;
 }
 
@@ -86,12 +86,12 @@ task_by j piece p Open Never = None
 task_by j piece p (Ready _) _ = None
 task_by j piece p Finished _ = None
 
-abbrev pub task_from : JobView → ℕ → Option Piece → Option TaskView
-task_from j piece None = None
-task_from j piece (Some p) = task_by j piece p p.end p.last
+abbrev pub task_of_piece : JobView → ℕ → Option Piece → Option TaskView
+task_of_piece j piece None = None
+task_of_piece j piece (Some p) = task_by j piece p p.end p.last
 
 abbrev pub task_at : JobView → ℕ → Option TaskView
-task_at j piece = if is_some j.ask then task_from j piece (piece_at j piece) else None
+task_at j piece = if is_some j.ask then task_of_piece j piece (piece_at j piece) else None
 
 -- ---- outcomes: one that names the last task of its piece, unanswered so far, is that task's answer
 
@@ -99,7 +99,7 @@ pub record NamesTask (j : JobView) (p : Piece) (x : Outcome) : Type 0 where
   pub job : x.job ≡ j.job
   pub version : x.version ≡ j.version
   pub unanswered : p.last ≡ Asked x.budget
-  pub from : place_of x.from ≡ place_of p.kept
+  pub from : search_place x.from ≡ search_place p.kept
 
 abbrev pub NamesTaskOf : JobView → Option Piece → Outcome → Type 0
 NamesTaskOf j None x = ⊥
@@ -116,7 +116,7 @@ task_told j p x = record {
   piece = x.piece;
   rules = j.rules;
   prefix = p.prefix.list;
-  from = place_of x.from;
+  from = search_place x.from;
   budget = x.budget;
 }
 
@@ -165,12 +165,12 @@ kept_with j piece Never = known_with j piece 0 false
 kept_with j piece (Asked budget) = known_with j piece budget false
 kept_with j piece (Answered budget) = known_with j piece budget true
 
-abbrev pub kept_from : JobView → ℕ → Option Piece → Kept
-kept_from j piece None = kept_with j 0 Never
-kept_from j piece (Some p) = kept_with j piece p.last
+abbrev pub kept_of_piece : JobView → ℕ → Option Piece → Kept
+kept_of_piece j piece None = kept_with j 0 Never
+kept_of_piece j piece (Some p) = kept_with j piece p.last
 
 abbrev pub kept_of : JobView → ℕ → Kept
-kept_of j piece = kept_from j piece (piece_at j piece)
+kept_of j piece = kept_of_piece j piece (piece_at j piece)
 
 -- an outcome is accepted where it matches; any other is a stranger and changes nothing
 abbrev pub IsTaken : JobView → Outcome → Taken → JobView → Type 0
@@ -196,12 +196,12 @@ end_answer number Open (Asked _) = NotReady number
 end_answer number Open Never = NotReady number
 end_answer number Finished _ = NoMore
 
-abbrev pub answer_from : ℕ → Option Piece → JobAnswer
-answer_from number None = NoMore
-answer_from number (Some p) = end_answer number p.end p.last
+abbrev pub piece_answer : ℕ → Option Piece → JobAnswer
+piece_answer number None = NoMore
+piece_answer number (Some p) = end_answer number p.end p.last
 
 abbrev pub next_answer : JobView → JobAnswer
-next_answer j = answer_from (done_before j.pieces + 1) (slice_get j.pieces (done_before j.pieces))
+next_answer j = piece_answer (done_before j.pieces + 1) (slice_get j.pieces (done_before j.pieces))
 
 -- a shown order is no longer ready
 abbrev pub reopened_end : PieceEnd → PieceEnd

@@ -3,9 +3,9 @@ use Rattle.std.specs.Prelude.{◌≡◌, ℕ, ◌≤◌, List, [], ◌∷◌, le
 use Rattle.std.specs.Arc.{arc_value}
 use Rattle.sign_rules.specs.declared.sign.Sign.{Sign}
 use Rattle.sign_rules.specs.Rules.{RulesView}
-use Rattle.search_cursor.specs.Place.{Place, place_of}
+use Rattle.search_cursor.specs.Place.{SearchPlace, search_place}
 use Rattle.order_search.specs.Lists.{remaining, open_lists, lists_between}
-use Rattle.order_search.specs.Invariant.{IsWithin}
+use Rattle.order_search.specs.Invariant.{IsConsistentWithin}
 use Rattle.worker_split.specs.declared.task.Task.{Task}
 use Rattle.worker_split.specs.declared.outcome.Outcome.{Outcome}
 use Rattle.worker_split.specs.declared.outcome.End.{End}
@@ -18,7 +18,7 @@ pub record TaskView : Type 0 where
   pub piece : ℕ
   pub rules : RulesView
   pub prefix : List Sign
-  pub from : Place
+  pub from : SearchPlace
   pub budget : ℕ
 
 abbrev pub task_of : Task → TaskView
@@ -28,11 +28,11 @@ task_of t = record {
   piece = t.piece;
   rules = arc_value t.rules;
   prefix = t.prefix.list;
-  from = place_of t.position;
+  from = search_place t.position;
   budget = t.budget;
 }
 
-abbrev pub left_at : TaskView → Place → List (List Sign)
+abbrev pub left_at : TaskView → SearchPlace → List (List Sign)
 left_at t place = remaining t.rules t.prefix place
 
 -- Found: the order is the first that is left, and the rest is left at the position. Done: nothing is left. Paused: the
@@ -40,19 +40,19 @@ left_at t place = remaining t.rules t.prefix place
 -- lists that begin with the prefix.
 abbrev pub IsRightEnd : TaskView → End → Type 0
 IsRightEnd t (Found order position) =
-    (left_at t t.from ≡ order.list ∷ left_at t (place_of position))
-    × IsWithin t.rules t.prefix position.signs.list
+    (left_at t t.from ≡ order.list ∷ left_at t (search_place position))
+    × IsConsistentWithin t.rules t.prefix position.signs.list
 IsRightEnd t Done = left_at t t.from ≡ []
 IsRightEnd t (Paused position) =
-    (left_at t (place_of position) ≡ left_at t t.from)
-    × (t.budget ≤ length (lists_between (open_lists t.rules) t.prefix t.from (place_of position)))
-    × IsWithin t.rules t.prefix position.signs.list
+    (left_at t (search_place position) ≡ left_at t t.from)
+    × (t.budget ≤ length (lists_between (open_lists t.rules) t.prefix t.from (search_place position)))
+    × IsConsistentWithin t.rules t.prefix position.signs.list
 
 -- the outcome names the task, and its end is right
 pub record IsRightOutcome (t : TaskView) (x : Outcome) : Type 0 where
   pub job : x.job ≡ t.job
   pub version : x.version ≡ t.version
   pub piece : x.piece ≡ t.piece
-  pub from : place_of x.from ≡ t.from
+  pub from : search_place x.from ≡ t.from
   pub budget : x.budget ≡ t.budget
   pub end : IsRightEnd t x.end

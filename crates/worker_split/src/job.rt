@@ -43,7 +43,7 @@ impl Model for JobState {
 
 impl JobState {
     ghost use Rattle.worker_split.specs.Tasks.{task_of, IsRightOutcome};
-    ghost use Rattle.worker_split.specs.Job.{opened, asked, task_at, piece_at, Matches, IsRightFor, IsRightWhereNamed, IsTaken, kept_of, next_answer, after_answer, waits_for, needed};
+    ghost use Rattle.worker_split.specs.Job.{opened_job, asked, task_at, piece_at, Matches, IsRightFor, IsRightWhereNamed, IsTaken, kept_of, next_answer, after_answer, waits_for, needed};
     ghost use Rattle.worker_split.specs.Waiting.{waiting};
     ghost use Rattle.worker_split.specs.declared.answers.Taken.TheVariants.{Accepted};
     ghost use Rattle.worker_split.specs.declared.piece.Piece.{Piece};
@@ -58,7 +58,7 @@ impl JobState {
         most: u32,
     ) -> Result<JobState, AllocError>
         requires { most ≡ 1 }
-        ensures { IfOk result (λ j. j ≡ opened job version (arc_value rules) most) }
+        ensures { IfOk result (λ j. j ≡ opened_job job version (arc_value rules) most) }
     {
         let prefixes = pieces(alloc, &rules, most)?;
         let mut pieces = Vec::with_capacity(alloc, prefixes.len())?;

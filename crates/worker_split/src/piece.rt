@@ -1,5 +1,5 @@
 ghost use Rattle.std.specs.Prelude.{◌≡◌, ℕ, IfOk, IsTrue, ◌↔◌, if◌then◌else◌, Some, None};
-ghost use Rattle.search_cursor.specs.Place.{place_of};
+ghost use Rattle.search_cursor.specs.Place.{search_place};
 
 use crate::answers::JobAnswer;
 use crate::outcome::{End, Outcome};
@@ -117,7 +117,7 @@ impl Piece {
     /// Whether the last task, unanswered so far, has the budget and the position of the outcome.
     pub(crate) fn is_answered_by(&self, outcome: &Outcome) -> bool
         ensures { IsTrue result ↔ ((self.now.last ≡ LastTask.Asked outcome.now.budget)
-            × (place_of outcome.now.from ≡ place_of self.now.kept)) }
+            × (search_place outcome.now.from ≡ search_place self.now.kept)) }
     {
         match self.last {
             LastTask::Asked { budget } => budget == outcome.budget && outcome.from.same(&self.kept),

@@ -1,5 +1,5 @@
 ghost use Rattle.std.specs.Prelude.{◌≡◌, ◌<◌, ◌≤◌, ◌++◌, [], ◌∷◌, length, map, IfOk, IsTrue, if◌then◌else◌};
-ghost use Rattle.sign_rules.specs.Signs.{order_of};
+ghost use Rattle.sign_rules.specs.Signs.{bare_order};
 ghost use Rattle.sign_rules.specs.Rules.{is_consistent};
 ghost use Rattle.worker_split.specs.Pieces.{pieces_of};
 
@@ -10,7 +10,7 @@ use std::alloc::{AllocError, Global};
 /// length has just one consistent list, and there is none where some length has none.
 pub fn pieces(alloc: Global, rules: &Rules, most: u32) -> Result<Vec<Order>, AllocError>
     requires { most ≡ 1 }
-    ensures { IfOk result (λ orders. orders.items ≡ map order_of (pieces_of rules.now most)) }
+    ensures { IfOk result (λ orders. orders.items ≡ map bare_order (pieces_of rules.now most)) }
 {
     let mut order = Order::with_room(alloc, &[], rules.pairs() as usize)?;
     let mut pieces = Vec::with_capacity(alloc, 1)?;

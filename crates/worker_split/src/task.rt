@@ -1,7 +1,7 @@
 ghost use Rattle.std.specs.Prelude.{◌≡◌, ◌≤◌, IsTrue, ◌↔◌};
 ghost use Rattle.std.specs.Arc.{arc_value};
 ghost use Rattle.sign_rules.specs.Rules.{is_consistent};
-ghost use Rattle.order_search.specs.Invariant.{IsWithin};
+ghost use Rattle.order_search.specs.Invariant.{IsConsistentWithin};
 
 use search_cursor::Position;
 use sign_rules::{Order, Rules};
@@ -19,7 +19,7 @@ pub struct Task {
     pub position: Position,
     pub budget: u64,
     pub ghost consistent: { IsTrue (is_consistent (arc_value rules) prefix.list) },
-    pub ghost within: { IsWithin (arc_value rules) prefix.list position.signs.list },
+    pub ghost within: { IsConsistentWithin (arc_value rules) prefix.list position.signs.list },
     pub ghost some_budget: { 1 ≤ budget },
 }
 

@@ -1,7 +1,7 @@
 use Rattle.std.proofs.Common.{◌≡◌, ◌++◌, ◌<◌, List, length, sym, subst, ap, ap₂, ◌∙◌}
 use Rattle.face_builder.specs.declared.half_edges.HalfEdge.{HalfEdge}
 use Rattle.face_builder.specs.HalfEdge.{both_ways, border_parts, all_half_edges, compare_half_edges, half_edges_of}
-use Rattle.face_builder.specs.Sorted.{in_order}
+use Rattle.face_builder.specs.Sorted.{sorted_list}
 use Rattle.face_builder.proofs.Ordered.{sorted_half_edges}
 use Rattle.face_builder.proofs.Lengths.{few_half_edges}
 use Rattle.face_builder.proofs.half_edges.half_edges_of.Goals as goal
@@ -17,7 +17,7 @@ returns-clause-value c =
     (ap₂ border_parts (c.corners.ensures.value ∙ c.sheet.ensures.value) c.pieces-pieces.ensures.value)
     in
     sorted_half_edges _ _ c.sort_unstable.ensures.permutation c.sort_unstable.ensures.sorted
-    ∙ ap (in_order compare_half_edges) whole
+    ∙ ap (sorted_list compare_half_edges) whole
 
 pub returns-clause-bound : goal.returns-clause-bound
 returns-clause-bound c =

@@ -6,7 +6,7 @@ use Rattle.worker_split.specs.declared.outcome.Outcome.{Outcome}
 use Rattle.worker_split.specs.declared.piece.Piece.{Piece}
 use Rattle.worker_split.specs.Pieces.{consistent_lists, is_allowed, allowed_length, pieces_of}
 use Rattle.worker_split.specs.Tasks.{IsRightOutcome}
-use Rattle.worker_split.specs.Job.{JobView, opened, new_piece, piece_at, task_with}
+use Rattle.worker_split.specs.Job.{JobView, opened_job, new_piece, piece_at, task_with}
 use Rattle.job_enumeration.specs.Record.{job_after, IsRightPost}
 use Rattle.job_enumeration.specs.Rows.{one_pair, stopped_first, found_over, found_under, done_last, worked_record}
 use Rattle.job_enumeration.proofs.laws.worked_record_is_legal.Goals as goal
@@ -17,7 +17,7 @@ right_for j x c known right p e =
     subst (λ q. IsRightOutcome (task_with j x.piece q x.budget) x) (same_Some c p (sym known ∙ e)) right
 
 abbrev job_at : ℕ → JobView
-job_at n = job_after (opened 1 0 one_pair 1) (take n worked_record)
+job_at n = job_after (opened_job 1 0 one_pair 1) (take n worked_record)
 
 abbrev piece_of : ℕ → Piece
 piece_of n = unwrap_or (piece_at (job_at n) 1) (new_piece [])

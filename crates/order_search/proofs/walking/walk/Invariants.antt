@@ -1,5 +1,5 @@
 use Rattle.std.proofs.Common.{◌≤◌}
-use Rattle.search_cursor.specs.Place.{place_of}
+use Rattle.search_cursor.specs.Place.{search_place}
 use Rattle.order_search.specs.Invariant.{IsSearch}
 use Rattle.order_search.proofs.Walks.{Walked}
 use Rattle.order_search.proofs.Measure.{place_steps}
@@ -8,9 +8,9 @@ use Rattle.order_search.proofs.walking.walk.Given as goal
 abbrev pub invariant-loop-position : goal.invariant-loop-position
 invariant-loop-position l = record {
   search : IsSearch l.rules l.prefix l.position.signs;
-  walked : Walked l.rules l.prefix (place_of l.initial.position) (place_of l.position) l.units;
+  walked : Walked l.rules l.prefix (search_place l.initial.position) (search_place l.position) l.units;
   within : l.units ≤ l.budget;
 }
 
 abbrev pub decreases-loop-position : goal.decreases-loop-position
-decreases-loop-position l = place_steps (place_of l.position) l.rules.pairs
+decreases-loop-position l = place_steps (search_place l.position) l.rules.pairs

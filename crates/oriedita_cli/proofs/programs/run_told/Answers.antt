@@ -1,6 +1,6 @@
 use Rattle.std.proofs.Common.{arith, inl, inr, refl, ◌≡◌, []}
 use Rattle.std.proofs.KnownBytes.{Consumes-nil}
-use Rattle.job_register.specs.View.{events_of}
+use Rattle.job_register.specs.View.{record_events}
 use Rattle.oriedita_cli.proofs.Outputs.{refused_output}
 use Rattle.oriedita_cli.proofs.Readings.{unrun}
 use Rattle.oriedita_cli.proofs.programs.run_told.Goals as goal
@@ -17,7 +17,7 @@ returns-in-Err-clause-run g c =
       (
         [],
         Consumes-nil (g.S.Source.left c.args.script.now),
-        unrun _ _ _ c.ended_without.result.status (events_of c.ended_without.result.events) _ _ _ _
+        unrun _ _ _ c.ended_without.result.status (record_events c.ended_without.result.events) _ _ _ _
             c.ended_without.ensures.events status,
       ),
     )

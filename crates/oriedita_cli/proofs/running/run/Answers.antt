@@ -1,6 +1,6 @@
 use Rattle.std.proofs.Common.{arith, inl, ◌≡◌, [], None, map, string_bytes, option_and_then, ap, rules}
 use Rattle.std.proofs.KnownBytes.{Consumes-nil}
-use Rattle.job_register.specs.View.{events_of}
+use Rattle.job_register.specs.View.{record_events}
 use Rattle.program_words.specs.ProgramWords.{said_of}
 use Rattle.oriedita_cli.proofs.Readings.{script_is_run, unrun}
 use Rattle.oriedita_cli.proofs.Unanswered.{ended_early}
@@ -13,7 +13,7 @@ returns-in-Err-BadWords-clause-input g c =
       [],
       Consumes-nil (g.S.Source.left c.args.script.now),
       script_is_run _ _ _ _ _ _ _ _ _ _ (ap (option_and_then (λ said. said.sample)) none)
-          (inl (ended_early _ _ c.ended_without.result.status (events_of c.ended_without.result.events) _ _
+          (inl (ended_early _ _ c.ended_without.result.status (record_events c.ended_without.result.events) _ _
           c.ended_without.ensures.events (omega (arith, status)) (λ three. omega (arith, three, status))
           (λ five. omega (arith, five, status)))),
     )
@@ -22,6 +22,6 @@ pub returns-in-Err-Memory-clause-input : goal.returns-in-Err-Memory-clause-input
 returns-in-Err-Memory-clause-input g c = (
   [],
   Consumes-nil (g.S.Source.left c.args.script.now),
-  unrun _ _ _ c.ended_without-in-Err-Memory.result.status (events_of c.ended_without-in-Err-Memory.result.events) _ _ _ _
+  unrun _ _ _ c.ended_without-in-Err-Memory.result.status (record_events c.ended_without-in-Err-Memory.result.events) _ _ _ _
       c.ended_without-in-Err-Memory.ensures.events c.ended_without-in-Err-Memory.ensures.status,
 )

@@ -1,5 +1,5 @@
 use Rattle.std.proofs.Common.{inl, inr}
-use Rattle.job_register.specs.View.{events_of}
+use Rattle.job_register.specs.View.{record_events}
 use Rattle.oriedita_cli.proofs.Outputs.{script_output, unanswered_output}
 use Rattle.oriedita_cli.proofs.Readings.{whole_is_read, cut_is_read, nothing_is_read, no_file_is_unread, script_is_run, sample_is_run}
 use Rattle.oriedita_cli.proofs.running.run_beside.Goals as goal
@@ -10,7 +10,7 @@ returns-in-Whole-clause-input g c =
       read.0,
       read.1,
       script_is_run _ _ _ _ _ _ _ _ _ _ read.2.0
-          (inr (whole_is_read _ _ _ c.run_beside_workers.result.status (events_of c.run_beside_workers.result.events) read.0 _ _ read.2.1
+          (inr (whole_is_read _ _ _ c.run_beside_workers.result.status (record_events c.run_beside_workers.result.events) read.0 _ _ read.2.1
           c.run_beside_workers.ensures.done c.run_beside_workers.ensures.status)),
     )
 
@@ -24,8 +24,8 @@ returns-in-Cut-clause-input g c =
       read.0,
       read.1,
       script_is_run _ _ _ _ _ _ _ _ _ _ read.2.0
-          (inr (cut_is_read _ _ _ c.run_beside_workers-in-Cut.result.status c.cut_short.result.status (events_of c.run_beside_workers-in-Cut.result.events)
-          (events_of c.cut_short.result.events) read.0 _ _ read.2.1 c.run_beside_workers-in-Cut.ensures.done
+          (inr (cut_is_read _ _ _ c.run_beside_workers-in-Cut.result.status c.cut_short.result.status (record_events c.run_beside_workers-in-Cut.result.events)
+          (record_events c.cut_short.result.events) read.0 _ _ read.2.1 c.run_beside_workers-in-Cut.ensures.done
           c.run_beside_workers-in-Cut.ensures.status c.cut_short.ensures.events c.cut_short.ensures.status)),
     )
 
@@ -44,7 +44,7 @@ returns-in-Nothing-clause-input g c =
       read.1,
       script_is_run _ _ _ _ _ _ _ _ _ _ read.2.0
           (inr (nothing_is_read _ _ c.in-Nothing.status c.ended_without.result.status
-          (events_of c.ended_without.result.events) read.0 _ _ read.2.1 c.ended_without.ensures.status
+          (record_events c.ended_without.result.events) read.0 _ _ read.2.1 c.ended_without.ensures.status
           c.ended_without.ensures.events)),
     )
 
@@ -55,7 +55,7 @@ returns-in-NoFile-clause-input g c =
       read.1,
       script_is_run _ _ _ _ _ _ _ _ _ _ read.2.0
           (inl (no_file_is_unread _ _ c.in-NoFile.fault c.ended_unread.result.status
-          (events_of c.ended_unread.result.events) read.0 _ _ read.2.1 c.ended_unread.ensures.events
+          (record_events c.ended_unread.result.events) read.0 _ _ read.2.1 c.ended_unread.ensures.events
           c.ended_unread.ensures.late c.ended_unread.ensures.failed c.ended_unread.ensures.long)),
     )
 

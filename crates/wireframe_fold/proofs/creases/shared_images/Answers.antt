@@ -1,13 +1,13 @@
 use Rattle.std.proofs.Common.{sym, subst}
 use Rattle.face_builder.specs.declared.shared.SharedPiece.{SharedPiece}
 use Rattle.wireframe_fold.specs.Crease.{HasSharedEnds}
-use Rattle.wireframe_fold.specs.Folding.{motions_of, IsClosed}
+use Rattle.wireframe_fold.specs.Folding.{motions_of, IsClosedAt}
 use Rattle.wireframe_fold.proofs.CreaseImages.{shared_more}
 use Rattle.wireframe_fold.proofs.creases.shared_images.Goals as goal
 
 pub shared_image-requires-clause-closed : goal.shared_image-requires-clause-closed
 shared_image-requires-clause-closed c =
-    let P : SharedPiece → Type 0 = IsClosed (motions_of c.args.motions.now) in
+    let P : SharedPiece → Type 0 = IsClosedAt (motions_of c.args.motions.now) in
     subst P (sym c.piece-item.is)
     (c.requires.closed c.loop-piece.piece-index c.piece-item.result c.loop-piece-test.true)
 

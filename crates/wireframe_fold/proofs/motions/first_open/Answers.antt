@@ -5,7 +5,7 @@ use Rattle.std.proofs.lemmas.List.{take_all}
 use Rattle.std.proofs.lemmas.List.Elements.{All-more}
 use Rattle.std.proofs.lemmas.Option.{slice_get-get_or}
 use Rattle.face_builder.specs.declared.shared.SharedPiece.{SharedPiece}
-use Rattle.wireframe_fold.specs.Folding.{motions_of, IsClosed}
+use Rattle.wireframe_fold.specs.Folding.{motions_of, IsClosedAt}
 use Rattle.wireframe_fold.proofs.motions.first_open.Goals as goal
 
 pub returns-then-not-is_closed : goal.returns-then-not-is_closed
@@ -23,13 +23,13 @@ returns-then-not-is_closed c =
 
 pub loop-piece-preserved : goal.loop-piece-preserved
 loop-piece-preserved c =
-    let P : SharedPiece → Type 0 = IsClosed (motions_of c.args.motions.now) in
+    let P : SharedPiece → Type 0 = IsClosedAt (motions_of c.args.motions.now) in
     let s = c.piece-item.result in
     All-more P c.args.shared.now c.loop-piece.piece-index s c.loop-piece-test.true c.loop-piece.invariant
     (subst P c.piece-item.is (c.is_closed.ensures.0 c.if-not-is_closed.false))
 
 pub returns : goal.returns
 returns c =
-    let P : List SharedPiece → Type 0 = All (IsClosed (motions_of c.args.motions.now)) in
+    let P : List SharedPiece → Type 0 = All (IsClosedAt (motions_of c.args.motions.now)) in
     subst P (take_all c.loop-piece.piece-index c.args.shared.now c.loop-piece-test.false)
     c.loop-piece.invariant

@@ -4,7 +4,7 @@ use Rattle.task_board.specs.declared.event.Ticket.{Ticket}
 use Rattle.task_board.specs.declared.event.Stand.TheVariants.{Waiting}
 use Rattle.task_board.specs.declared.event.Step.TheVariants.{Put}
 use Rattle.task_board.specs.History.{replay_of}
-use Rattle.task_board.specs.Invariant.{kept_of}
+use Rattle.task_board.specs.Invariant.{kept_replay}
 use Rattle.task_board.proofs.Replays.{replayed_next, legal_next}
 use Rattle.std.proofs.lemmas.List.Sums.{sum_by-append}
 use Rattle.task_board.specs.Room.{owed_at}
@@ -17,7 +17,7 @@ invariant_of-self-2 c =
     let e : Event = record { seat = c.args.seat; step = Put (Some n) } in
     let t : Ticket = record { owner = c.args.seat; stand = Waiting } in
     let h = c.self.inside in
-    let is : replay_of c.args.self.now ≡ kept_of h = rw (← c.self.view_is) c.self.invariant.replayed in
+    let is : replay_of c.args.self.now ≡ kept_replay h = rw (← c.self.view_is) c.self.invariant.replayed in
     let room = c.in_ok-reserve.ensures.ok in
     let same = c.in_ok-reserve.ensures.items in
     let pushed = rw c.unwrap-2.ensures at c.push-2.ensures.items in
@@ -29,8 +29,8 @@ invariant_of-self-2 c =
     let number : n ≡ length h.tickets.items + 1 = omega (arith, c.len.ensures, ap length c.in_ok-reserve-2.ensures.items) in
     let long = length-append h.tickets.items (t ∷ []) in
     record {
-      replayed = replayed_next h.events.items c.push-2.new.self.items e (kept_of h) _ c.self.invariant.replayed more (rw tickets refl);
-      legal = legal_next h.events.items c.push-2.new.self.items e (kept_of h) c.self.invariant.replayed c.self.invariant.legal more (put_next (kept_of h) c.args.seat n opened left number);
+      replayed = replayed_next h.events.items c.push-2.new.self.items e (kept_replay h) _ c.self.invariant.replayed more (rw tickets refl);
+      legal = legal_next h.events.items c.push-2.new.self.items e (kept_replay h) c.self.invariant.replayed c.self.invariant.legal more (put_next (kept_replay h) c.args.seat n opened left number);
       seats = c.self.invariant.seats;
       tickets = rw tickets (omega (arith, long, left));
       begun = rw tickets (omega (arith, c.self.invariant.begun, long));

@@ -1,7 +1,7 @@
 use Rattle.std.proofs.Common.{◌≡◌, ◌++◌, ◌∷◌, [], length, refl, ap, arith, length-append}
 use Rattle.task_board.specs.declared.event.Event.{Event}
 use Rattle.task_board.specs.History.{replay_of}
-use Rattle.task_board.specs.Invariant.{kept_of}
+use Rattle.task_board.specs.Invariant.{kept_replay}
 use Rattle.task_board.proofs.Replays.{replayed_next, legal_next}
 use Rattle.task_board.proofs.history.History.note.Goals as goal
 
@@ -13,10 +13,10 @@ invariant_of-self-2 c =
     let same = c.in_ok-reserve.ensures.items in
     let pushed = rw c.unwrap.ensures at c.push.ensures.items in
     let more : c.push.new.self.items ≡ h.events.items ++ e ∷ [] = rw (pushed, same) refl in
-    let is : replay_of c.args.self.now ≡ kept_of h = rw (← c.self.view_is) c.self.invariant.replayed in
+    let is : replay_of c.args.self.now ≡ kept_replay h = rw (← c.self.view_is) c.self.invariant.replayed in
     record {
-      replayed = replayed_next h.events.items c.push.new.self.items e (kept_of h) _ c.self.invariant.replayed more (rw is at c.requires.leaves);
-      legal = legal_next h.events.items c.push.new.self.items e (kept_of h) c.self.invariant.replayed c.self.invariant.legal more (rw is at c.requires.next);
+      replayed = replayed_next h.events.items c.push.new.self.items e (kept_replay h) _ c.self.invariant.replayed more (rw is at c.requires.leaves);
+      legal = legal_next h.events.items c.push.new.self.items e (kept_replay h) c.self.invariant.replayed c.self.invariant.legal more (rw is at c.requires.next);
       seats = c.self.invariant.seats;
       tickets = c.self.invariant.tickets;
       begun = c.self.invariant.begun;

@@ -2,7 +2,7 @@ use Rattle.std.proofs.Common.{◌≡◌, ◌<◌, ◌++◌, ◌∷◌, [], None,
 use Rattle.task_board.specs.declared.event.Event.{Event}
 use Rattle.task_board.specs.declared.event.Step.TheVariants.{Take}
 use Rattle.task_board.specs.History.{replay_of}
-use Rattle.task_board.specs.Invariant.{kept_of}
+use Rattle.task_board.specs.Invariant.{kept_replay}
 use Rattle.task_board.proofs.Replays.{replayed_next, legal_next}
 use Rattle.task_board.proofs.Tickets.{flag_set}
 use Rattle.task_board.proofs.history.History.tell.Goals as goal
@@ -14,11 +14,11 @@ invariant_of-self c =
     let more : c.push.new.self.items ≡ h.events.items ++ e ∷ [] = rw c.unwrap.ensures at c.push.ensures.items in
     let within : c.args.seat < length h.was_told = omega (arith, c.self.invariant.seats.1, c.requires.seat) in
     let owes = flag_set h.was_told c.args.seat within c.if-not-self-seat.true in
-    let is : replay_of c.args.self.now ≡ kept_of h = rw (← c.self.view_is) c.self.invariant.replayed in
+    let is : replay_of c.args.self.now ≡ kept_replay h = rw (← c.self.view_is) c.self.invariant.replayed in
     let closed : h.is_closed ≡ true = rw is at c.requires.closed in
     record {
-      replayed = replayed_next h.events.items c.push.new.self.items e (kept_of h) _ c.self.invariant.replayed more refl;
-      legal = legal_next h.events.items c.push.new.self.items e (kept_of h) c.self.invariant.replayed c.self.invariant.legal more (rw (closed, c.if-not-self-seat.true) refl);
+      replayed = replayed_next h.events.items c.push.new.self.items e (kept_replay h) _ c.self.invariant.replayed more refl;
+      legal = legal_next h.events.items c.push.new.self.items e (kept_replay h) c.self.invariant.replayed c.self.invariant.legal more (rw (closed, c.if-not-self-seat.true) refl);
       seats = (c.self.invariant.seats.0, rw length-set c.self.invariant.seats.1);
       tickets = c.self.invariant.tickets;
       begun = c.self.invariant.begun;
@@ -29,13 +29,13 @@ invariant_of-self c =
 
 pub returns-then-not-self-seat : goal.returns-then-not-self-seat
 returns-then-not-self-seat c =
-    let is : replay_of c.args.self.now ≡ kept_of c.self.inside = rw (← c.self.view_is) c.self.invariant.replayed in
+    let is : replay_of c.args.self.now ≡ kept_replay c.self.inside = rw (← c.self.view_is) c.self.invariant.replayed in
     let closed : c.self.inside.is_closed ≡ true = rw is at c.requires.closed in
     let more = rw c.unwrap.ensures at c.push.ensures.items in
     rw (is, closed, c.if-not-self-seat.true, more, c.self.view_is) refl
 
 pub returns-else-not-self-seat : goal.returns-else-not-self-seat
 returns-else-not-self-seat c =
-    let is : replay_of c.args.self.now ≡ kept_of c.self.inside = rw (← c.self.view_is) c.self.invariant.replayed in
+    let is : replay_of c.args.self.now ≡ kept_replay c.self.inside = rw (← c.self.view_is) c.self.invariant.replayed in
     let closed : c.self.inside.is_closed ≡ true = rw is at c.requires.closed in
     rw (is, closed, c.if-not-self-seat.false) refl

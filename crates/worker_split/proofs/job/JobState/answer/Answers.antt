@@ -1,7 +1,7 @@
 use Rattle.std.proofs.Common.{◌≡◌, ◌∙◌, ◌+◌, ◌<◌, ℕ, Option, Some, None, length, slice_get, slice_set, refl, sym, ap, arith}
 use Rattle.std.proofs.lemmas.Option.{slice_get_read}
 use Rattle.worker_split.specs.declared.piece.Piece.{Piece}
-use Rattle.worker_split.specs.Job.{JobView, done_before, answer_from, reopened_end}
+use Rattle.worker_split.specs.Job.{JobView, done_before, piece_answer, reopened_end}
 use Rattle.worker_split.proofs.Jobs.{closed-none, after_is}
 use Rattle.worker_split.proofs.job.JobState.answer.Goals as goal
 
@@ -20,8 +20,8 @@ returns-in_default c =
     record {
       answer =
           c.answer.ensures.answer
-          ∙ ap (answer_from (n + 1)) (sym found)
-          ∙ ap (λ k. answer_from (k + 1) (slice_get j.pieces k)) here;
+          ∙ ap (piece_answer (n + 1)) (sym found)
+          ∙ ap (λ k. piece_answer (k + 1) (slice_get j.pieces k)) here;
       state =
           ap (λ v. with v c.answer.new.self None) c.self.view_is
           ∙ ap (λ q. with j q None) c.answer.ensures.state

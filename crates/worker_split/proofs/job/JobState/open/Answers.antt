@@ -1,6 +1,6 @@
 use Rattle.std.proofs.Common.{◌∙◌, None, List, map, sym, ap, subst}
 use Rattle.std.specs.Arc.{arc_value}
-use Rattle.sign_rules.specs.Signs.{order_of}
+use Rattle.sign_rules.specs.Signs.{bare_order}
 use Rattle.worker_split.specs.declared.piece.Piece.{Piece}
 use Rattle.worker_split.specs.Pieces.{pieces_of}
 use Rattle.worker_split.specs.Job.{JobView, new_piece}
@@ -11,7 +11,7 @@ use Rattle.worker_split.proofs.job.JobState.open.Goals as goal
 pub invariant_of-result : goal.invariant_of-result
 invariant_of-result c =
     let r = arc_value c.args.rules in
-    let prefixes = c.deref-prefix-items.ensures.value ∙ c.in_ok-prefixes.ensures ∙ ap (λ q. map order_of (pieces_of q c.args.most)) c.deref.ensures in
+    let prefixes = c.deref-prefix-items.ensures.value ∙ c.in_ok-prefixes.ensures ∙ ap (λ q. map bare_order (pieces_of q c.args.most)) c.deref.ensures in
     let all = made_pieces c.loop-prefix.pieces.items c.deref-prefix-items.result.now c.loop-prefix.prefix-index (pieces_of r c.args.most)
     c.loop-prefix.invariant c.loop-prefix-test.false prefixes in
     subst (λ ps. IsJob r ps None) (sym all)
@@ -20,7 +20,7 @@ invariant_of-result c =
 pub returns : goal.returns
 returns c =
     let r = arc_value c.args.rules in
-    let prefixes = c.deref-prefix-items.ensures.value ∙ c.in_ok-prefixes.ensures ∙ ap (λ q. map order_of (pieces_of q c.args.most)) c.deref.ensures in
+    let prefixes = c.deref-prefix-items.ensures.value ∙ c.in_ok-prefixes.ensures ∙ ap (λ q. map bare_order (pieces_of q c.args.most)) c.deref.ensures in
     let all = made_pieces c.loop-prefix.pieces.items c.deref-prefix-items.result.now c.loop-prefix.prefix-index (pieces_of r c.args.most)
     c.loop-prefix.invariant c.loop-prefix-test.false prefixes in
     let with : List Piece → JobView = λ ps. record { job = c.args.job; version = c.args.version; rules = r; pieces = ps; ask = None } in

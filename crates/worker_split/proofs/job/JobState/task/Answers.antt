@@ -3,8 +3,8 @@ use Rattle.std.specs.Arc.{arc_value}
 use Rattle.std.specs.List.{All}
 use Rattle.sign_rules.specs.Signs.{OrderView}
 use Rattle.sign_rules.specs.Rules.{is_consistent}
-use Rattle.search_cursor.specs.Place.{Place}
-use Rattle.order_search.specs.Invariant.{IsWithin}
+use Rattle.search_cursor.specs.Place.{SearchPlace}
+use Rattle.order_search.specs.Invariant.{IsConsistentWithin}
 use Rattle.worker_split.specs.Job.{JobView}
 use Rattle.worker_split.specs.Invariant.{IsPiece, WasAsked}
 use Rattle.worker_split.proofs.Jobs.{piece_known, piece_asked, budget_of_ask}
@@ -21,15 +21,15 @@ invariant_of-result c =
     let prefix : kept.prefix.list ≡ c.in_ok-copy-in-Open-Asked.field-0.list =
     sym (ap (λ (o : OrderView). o.list) c.in_ok-copy-in-Open-Asked.ensures) in
     let signs : kept.kept.signs.list ≡ c.in_ok-copy-in-Open-Asked-2.field-0.signs.list =
-    sym (ap (λ (q : Place). q.signs) c.in_ok-copy-in-Open-Asked-2.ensures) in
+    sym (ap (λ (q : SearchPlace). q.signs) c.in_ok-copy-in-Open-Asked-2.ensures) in
     record {
       consistent =
           subst (λ l. is_consistent (arc_value c.in_ok-try_clone-in-Open-Asked.field-0) l ≡ true) prefix
           (subst (λ r. is_consistent r kept.prefix.list ≡ true) rules known.consistent);
       within =
-          subst (λ l. IsWithin (arc_value c.in_ok-try_clone-in-Open-Asked.field-0) c.in_ok-copy-in-Open-Asked.field-0.list l) signs
-          (subst (λ l. IsWithin (arc_value c.in_ok-try_clone-in-Open-Asked.field-0) l kept.kept.signs.list) prefix
-          (subst (λ r. IsWithin r kept.prefix.list kept.kept.signs.list) rules known.within));
+          subst (λ l. IsConsistentWithin (arc_value c.in_ok-try_clone-in-Open-Asked.field-0) c.in_ok-copy-in-Open-Asked.field-0.list l) signs
+          (subst (λ l. IsConsistentWithin (arc_value c.in_ok-try_clone-in-Open-Asked.field-0) l kept.kept.signs.list) prefix
+          (subst (λ r. IsConsistentWithin r kept.prefix.list kept.kept.signs.list) rules known.within));
       some_budget = known.budget c.in-Open-Asked.budget c.in-Open-Asked.is-1;
     }
 
