@@ -19,4 +19,4 @@ mod workers;
 pub use folding::Folding;
 pub use programs::{program, run_arguments};
 pub use running::{Ended, run, run_alone};
-pub use sessions::session;
+pub use sessions::{sample_run, session};

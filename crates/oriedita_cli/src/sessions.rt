@@ -10,6 +10,7 @@ ghost use Rattle.job_register.specs.FoldingRecords.{EnumeratesOrders};
 ghost use Rattle.job_register.specs.Legal.{IsLegal};
 ghost use Rattle.job_register.specs.Text.{text_of};
 ghost use Rattle.oriedita_cli.specs.Clauses.{AreAnswered, IsOutput, ended_status};
+ghost use Rattle.oriedita_cli.specs.Samples.{IsSampled, sample_text};
 ghost use Rattle.oriedita_cli.specs.Tickets.{released};
 
 use crate::errands::{Errand, do_errand};
@@ -96,4 +97,36 @@ pub fn session<R: Threads + Sync, H: Helpers<Folding>, K: Sink>(
         ≤ released (H.held helpers.new) (H.given helpers.new) }
 {
     do_errand(rt, alloc, most, Errand::Script(commands), helpers, out)
+}
+
+/// Folds a sample pattern in a new session, and asks for one layer order after another, to the last. One line is written,
+/// `sample N faces F pairs P orders K`, or `sample N stopped` where an ask was refused.
+pub fn sample_run<R: Threads + Sync, H: Helpers<Folding>, K: Sink>(
+    rt: &R,
+    alloc: Global,
+    most: u32,
+    n: u32,
+    helpers: &mut H,
+    out: &mut K,
+) -> Ended
+    requires most { most ≡ 1 }
+    requires some { 1 ≤ n }
+    requires few { n ≤ 7 }
+    requires given { H.given helpers.old ≡ 0 }
+    requires none { (number : ℕ) → H.held helpers.old number ≡ None }
+    ensures legal { IsLegal most (record_events result.events) }
+    ensures enumeration { EnumeratesOrders most (record_events result.events) }
+    ensures input { IsSampled result.status n (record_events result.events) }
+    ensures output { IsOutput result.status (sample_text n (record_events result.events)) (K.taken out.old)
+        (K.taken out.new) (K.finished out.new) }
+    ensures status { (result.status ≡ ended_status (record_events result.events))
+        ⊎ ((result.status ≡ WRITE_FAILED) ⊎ (result.status ≡ NO_MEMORY)) }
+    ensures cause { result.status ≡ WRITE_FAILED → Rose (K.faults out.old) (K.faults out.new) }
+    ensures faults_stay { K.faults out.old ≤ K.faults out.new }
+    ensures running { H.misses helpers.new < 2 ^ 64 - 1
+        → running_replies (record_events result.events) + H.misses helpers.old ≤ H.misses helpers.new }
+    ensures tickets { accepted_outcomes (record_events result.events)
+        ≤ released (H.held helpers.new) (H.given helpers.new) }
+{
+    do_errand(rt, alloc, most, Errand::Sample(n), helpers, out)
 }
