@@ -1,7 +1,7 @@
 #!/usr/bin/env bash
 # Measures the exact numbers, the tests of open regions, layers, editing and folding against plain Rust, replays runs of
-# the board among threads, measures the reading of script text against `wc -w`, and times the examples and strips of
-# stamps that are folded. Its word is the number of rounds of numbers (12000 where there is none). Times are processor
+# the board among threads, measures the reading of script text against `wc -w` and of blocks, and times the examples and
+# strips of stamps that are folded. Its word is the number of rounds of numbers (12000 where there is none). Times are processor
 # times, the best of five, where nothing else is said.
 cd "$(dirname "$0")" || exit 1
 rounds="${1:-12000}"
@@ -77,12 +77,14 @@ measure() {
         printf "proved     %s s\nplain Rust %s s\nratio      %.2f\n", $1, $2, $1 / $2 }'
 }
 
-# The four measures of editing.
+# The measures of editing.
 all_editing() {
     (cd ../crates/bench_editing && rt run -- pieces 1) >"$folder/log" 2>&1 || { cat "$folder/log"; exit 1; }
     rustc -O --edition 2024 -o "$folder/editing" editing.rs || exit 1
     measure editing crossing 200
-    measure editing lines 1
+    measure editing held 20000
+    measure editing lines 10
+    measure editing edges 10
     measure editing check 100
     measure editing pieces 10
 }
@@ -138,6 +140,30 @@ text() {
         printf "editor     %s s, %.0f bytes a second\nwc -w      %s s, %.0f bytes a second\n", $1, bytes / $1, $2, bytes / $2 }'
 }
 
+# block KIND: a block of about four million bytes: auxiliary lines (200 different ones), an edge of the sheet, or a crease
+# that is there from the second line on.
+block() {
+    awk -v kind="$1" 'BEGIN {
+        print "load"
+        for (n = 0; n < 160000; n++) {
+            if (kind == "lines") print 4, n * 7 % 200 ".0000", "-100.00", n * 7 % 200 ".0000", "100.00"
+            if (kind == "edges") print 1, "-200.00 -200.00", "200.00 -200.00"
+            if (kind == "held") print 2, "-200.00 10.00", "200.00 10.00"
+        }
+        print "end"
+    }'
+}
+
+# The processor time of such a block, from its bytes to its reply.
+blocks() {
+    local kind
+    echo "== blocks, processor seconds"
+    for kind in lines edges held; do
+        block "$kind" >"$folder/block"
+        echo "$kind, $(wc -c <"$folder/block") bytes: $(race "$folder/block" "$editor" true | cut -d' ' -f1)"
+    done
+}
+
 # The time of each example by the clock, from its first byte to its last.
 all_examples() {
     local TIMEFORMAT='%R' script
@@ -177,6 +203,7 @@ threads "$board_runs"
 if [ -x "$editor" ]; then
     text zerolength
     text onborder
+    blocks
     all_examples
     strips 12 16 17 18 19
 else
