@@ -30,7 +30,8 @@ use Rattle.face_builder.specs.declared.half_edges.HalfEdge.{HalfEdge}
 use Rattle.face_builder.specs.HalfEdge.{forward, backward, parts_from, side_parts, border_parts}
 use Rattle.face_builder.specs.Vertices.{vertices_between, vertices_along}
 use Rattle.face_builder.proofs.Apart.{moves}
-use Rattle.face_builder.proofs.Border.{Goes, Runs, IsInside, inside_is, between_is, row_goes, row_of, part_is}
+use Rattle.face_builder.proofs.Border.{Runs, IsInside, inside_is, between_is, row_goes, row_of, part_is}
+use Rattle.plane_geometry.specs.Ends.{GoesAlong}
 use Rattle.face_builder.proofs.Chains.{Chain, member_either, reverse_member, flat_member}
 use Rattle.face_builder.proofs.Corners.{on_side}
 use Rattle.face_builder.proofs.Sheets.{AreSheetSides, sheet_sides, start_not_right, side_runs}
@@ -100,7 +101,7 @@ part_plain d u [] h m = absurd m
 part_plain d u (v ∷ vs) h (inl at) = sym (ap (λ (g : HalfEdge). g.piece) at)
 part_plain d u (v ∷ vs) h (inr m) = part_plain d v vs h m
 
-row_zero : (n : ℕ) (u : Position) (q : Point) (vs : List Point) → Chain (Goes n) (q ∷ vs)
+row_zero : (n : ℕ) (u : Position) (q : Point) (vs : List Point) → Chain (GoesAlong n) (q ∷ vs)
     → side_of u n (position_of q) ≡ Zero
     → (v : Point) → Member (q ∷ vs) v → side_of u n (position_of v) ≡ Zero
 row_zero n u q vs c zero v (inl at) = ap (λ (p : Point). side_of u n (position_of p)) (sym at) ∙ zero
@@ -125,7 +126,7 @@ module _ (p : PatternView) (sheet : is_sheet p.corners ≡ true) (rules : IsPatt
   abbrev pub Within : Point → Type 0
   Within v = (s : Side) → Member sides s → is_right_of (position_of v) s ≡ false
 
-  runs_of : (s : Side) → Member sides s → Goes (side_number s) s.start s.end × (side_number s < 16)
+  runs_of : (s : Side) → Member sides s → GoesAlong (side_number s) s.start s.end × (side_number s < 16)
   runs_of s m = side_runs sides of_sheet s m
 
   start_within : (t : Side) → Member sides t → Within t.start
@@ -193,7 +194,7 @@ module _ (p : PatternView) (sheet : is_sheet p.corners ≡ true) (rules : IsPatt
       let row = row_goes s p.pieces n run.1 run.0 in
       let ends = part_ends (dir_of n) s.start (vertices_along s p.pieces ++ s.end ∷ []) h r.2 in
       let part = part_is (dir_of n) s.start (vertices_along s p.pieces ++ s.end ∷ []) h
-      (subst (λ k. Chain (Goes k) (row_of s p.pieces)) (sym same) row) r.2 in
+      (subst (λ k. Chain (GoesAlong k) (row_of s p.pieces)) (sym same) row) r.2 in
       let zero = row_zero n (position_of s.start) s.start (vertices_along s p.pieces ++ s.end ∷ []) row
       (side_self (position_of s.start) n) in
       record {

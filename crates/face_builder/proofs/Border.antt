@@ -26,7 +26,7 @@ use Rattle.crease_model.specs.PartLaws.{EndsAt, in_order, turned, segment_ends}
 use Rattle.line_split.specs.MemberLaws.{Member}
 use Rattle.face_builder.specs.declared.half_edges.HalfEdge.{HalfEdge}
 use Rattle.face_builder.specs.HalfEdge.{forward, backward, parts_from}
-pub use Rattle.face_builder.specs.HalfEdgeKinds.{Goes}
+use Rattle.plane_geometry.specs.Ends.{GoesAlong}
 use Rattle.face_builder.specs.Sorted.{others_after, each_once}
 use Rattle.face_builder.specs.Vertices.{is_between_corners, point_between, ends_between, ascending_of, vertices_between, vertices_along}
 use Rattle.face_builder.proofs.Chains.{Chain, chain_close, chain_open, chain_as, chain_reverse, member_either, reverse_member, flat_member}
@@ -35,7 +35,7 @@ use Rattle.face_builder.proofs.Sorting.{Up, in_order_up, in_order_member}
 
 -- a half-edge runs in its direction
 abbrev pub Runs : HalfEdge → Type 0
-Runs h = Goes (dir_number h.dir) h.start h.end
+Runs h = GoesAlong (dir_number h.dir) h.start h.end
 
 pub direction_along : (n : ℕ) (p q : Position) → n < 16 → is_along n p q ≡ true → direction_of p q ≡ Some n
 direction_along n p q few along =
@@ -53,7 +53,7 @@ pub forward_runs : (k : ℕ) (p : Piece) → Runs (forward k p)
 forward_runs k p =
     let n = direction_number p.segment in
     let same : n % 16 ≡ n = omega (arith, few_number p.segment) in
-    subst (λ m. Goes m (lesser_end p.segment) (greater_end p.segment)) (sym same) p.segment.stretch.1
+    subst (λ m. GoesAlong m (lesser_end p.segment) (greater_end p.segment)) (sym same) p.segment.stretch.1
 
 pub backward_runs : (k : ℕ) (p : Piece) → Runs (backward k p)
 backward_runs k p =
@@ -200,26 +200,26 @@ module _ (x : Segment) (vs : List Point) (in_line : (v : Point) → Member vs v 
             ])
       ]
 
-  one_step : (u v : Point) → Member row u → Member row v → Before u v → Goes number u v
+  one_step : (u v : Point) → Member row u → Member row v → Before u v → GoesAlong number u v
   one_step u v m n less =
       along_line x (position_of u) (position_of v) (row_in_line u m) (row_in_line v n) less
 
-  pub up_row : Chain (Goes number) (low ∷ vs ++ high ∷ [])
+  pub up_row : Chain (GoesAlong number) (low ∷ vs ++ high ∷ [])
   unfolding row
-  up_row = chain_as Before (Goes number) row one_step row_rises
+  up_row = chain_as Before (GoesAlong number) row one_step row_rises
 
-  back_step : (u v : Point) → Goes number v u → Goes (opposite_number number) u v
+  back_step : (u v : Point) → GoesAlong number v u → GoesAlong (opposite_number number) u v
   back_step u v e = along_back number (position_of v) (position_of u) (few_number x) ∙ e
 
-  pub down_row : Chain (Goes (opposite_number number)) (high ∷ reverse vs ++ low ∷ [])
+  pub down_row : Chain (GoesAlong (opposite_number number)) (high ∷ reverse vs ++ low ∷ [])
   down_row =
       let turned_row : reverse (low ∷ vs ++ high ∷ []) ≡ high ∷ reverse vs ++ low ∷ [] =
       reverse-append (low ∷ []) (vs ++ high ∷ [])
       ∙ ap (λ zs. zs ++ low ∷ []) (reverse-append vs (high ∷ [])) in
-      chain_as (λ u v. Goes number v u) (Goes (opposite_number number)) (high ∷ reverse vs ++ low ∷ [])
+      chain_as (λ u v. GoesAlong number v u) (GoesAlong (opposite_number number)) (high ∷ reverse vs ++ low ∷ [])
       (λ u v _ _ e. back_step u v e)
-      (subst (Chain (λ u v. Goes number v u)) turned_row
-      (chain_reverse (Goes number) (low ∷ vs ++ high ∷ []) up_row))
+      (subst (Chain (λ u v. GoesAlong number v u)) turned_row
+      (chain_reverse (GoesAlong number) (low ∷ vs ++ high ∷ []) up_row))
 
 -- ---- the vertices of a side, from its start to its end
 
@@ -255,7 +255,7 @@ inside_is x side v at e =
       not_end = not-true _ b.1;
     }
 
-module _ (side : Side) (pieces : List Piece) (n : ℕ) (few : n < 16) (goes : Goes n side.start side.end) where
+module _ (side : Side) (pieces : List Piece) (n : ℕ) (few : n < 16) (goes : GoesAlong n side.start side.end) where
   -- where there is no segment there is nothing between
   none_between : segment_of side.start side.end ≡ None → (z : Point) → Member (vertices_between side pieces) z
       → ⊥
@@ -265,7 +265,7 @@ module _ (side : Side) (pieces : List Piece) (n : ℕ) (few : n < 16) (goes : Go
       (not (is_same_point z side.start) && not (is_same_point z side.end))) none)
 
   bare_row : (vs : List Point) → ((z : Point) → Member vs z → ⊥)
-      → Chain (Goes n) (side.start ∷ vs ++ side.end ∷ [])
+      → Chain (GoesAlong n) (side.start ∷ vs ++ side.end ∷ [])
   bare_row [] none = (goes, tt)
   bare_row (v ∷ vs) none = absurd (none v (inl refl))
 
@@ -285,12 +285,12 @@ module _ (side : Side) (pieces : List Piece) (n : ℕ) (few : n < 16) (goes : Go
     inside : (v : Point) → Member (vertices_between side pieces) v → IsInside x side v
     inside v m = inside_is x side v at (between_is side pieces v m)
 
-    up : lesser_end x ≡ side.start → greater_end x ≡ side.end → Chain (Goes n) (row_of side pieces)
+    up : lesser_end x ≡ side.start → greater_end x ≡ side.end → Chain (GoesAlong n) (row_of side pieces)
     up low high =
         let vs = vertices_between side pieces in
-        let ends : Goes (direction_number x) side.start side.end =
-        subst (λ (p : Point). Goes (direction_number x) p side.end) low
-        (subst (λ (q : Point). Goes (direction_number x) (lesser_end x) q) high x.stretch.1) in
+        let ends : GoesAlong (direction_number x) side.start side.end =
+        subst (λ (p : Point). GoesAlong (direction_number x) p side.end) low
+        (subst (λ (q : Point). GoesAlong (direction_number x) (lesser_end x) q) high x.stretch.1) in
         let same : direction_number x ≡ n =
         along_unique (direction_number x) n (position_of side.start) (position_of side.end)
         (few_number x) few ends goes in
@@ -306,10 +306,10 @@ module _ (side : Side) (pieces : List Piece) (n : ℕ) (few : n < 16) (goes : Go
         (ascending_rises _) in
         let forth : vertices_along side pieces ≡ vs =
         ap (λ b. cond b (reverse vs) vs) (not_before (rises low high)) in
-        subst (λ m. Chain (Goes m) (row_of side pieces)) same
-        (subst (λ zs. Chain (Goes (direction_number x)) (side.start ∷ zs ++ side.end ∷ [])) (sym forth)
-        (subst (λ (p : Point). Chain (Goes (direction_number x)) (p ∷ vs ++ side.end ∷ [])) low
-        (subst (λ (q : Point). Chain (Goes (direction_number x)) (lesser_end x ∷ vs ++ q ∷ [])) high all)))
+        subst (λ m. Chain (GoesAlong m) (row_of side pieces)) same
+        (subst (λ zs. Chain (GoesAlong (direction_number x)) (side.start ∷ zs ++ side.end ∷ [])) (sym forth)
+        (subst (λ (p : Point). Chain (GoesAlong (direction_number x)) (p ∷ vs ++ side.end ∷ [])) low
+        (subst (λ (q : Point). Chain (GoesAlong (direction_number x)) (lesser_end x ∷ vs ++ q ∷ [])) high all)))
       where
         rises : lesser_end x ≡ side.start → greater_end x ≡ side.end → Before side.start side.end
         rises low high =
@@ -317,14 +317,14 @@ module _ (side : Side) (pieces : List Piece) (n : ℕ) (few : n < 16) (goes : Go
             (subst (λ (q : Point). order_of (position_of (lesser_end x)) (position_of q) ≡ Pos) high
             (ends_order (stretch_of x) x.stretch))
 
-    down : lesser_end x ≡ side.end → greater_end x ≡ side.start → Chain (Goes n) (row_of side pieces)
+    down : lesser_end x ≡ side.end → greater_end x ≡ side.start → Chain (GoesAlong n) (row_of side pieces)
     down low high =
         let vs = vertices_between side pieces in
         let d = direction_number x in
-        let back : Goes d side.end side.start =
-        subst (λ (p : Point). Goes d p side.start) low
-        (subst (λ (q : Point). Goes d (lesser_end x) q) high x.stretch.1) in
-        let ends : Goes (opposite_number d) side.start side.end =
+        let back : GoesAlong d side.end side.start =
+        subst (λ (p : Point). GoesAlong d p side.start) low
+        (subst (λ (q : Point). GoesAlong d (lesser_end x) q) high x.stretch.1) in
+        let ends : GoesAlong (opposite_number d) side.start side.end =
         along_back d (position_of side.end) (position_of side.start) (few_number x) ∙ back in
         let same : opposite_number d ≡ n =
         along_unique (opposite_number d) n (position_of side.start) (position_of side.end)
@@ -341,10 +341,10 @@ module _ (side : Side) (pieces : List Piece) (n : ℕ) (few : n < 16) (goes : Go
         (ascending_rises _) in
         let turns : vertices_along side pieces ≡ reverse vs =
         ap (λ b. cond b (reverse vs) vs) (falls low high) in
-        subst (λ m. Chain (Goes m) (row_of side pieces)) same
-        (subst (λ zs. Chain (Goes (opposite_number d)) (side.start ∷ zs ++ side.end ∷ [])) (sym turns)
-        (subst (λ (q : Point). Chain (Goes (opposite_number d)) (q ∷ reverse vs ++ side.end ∷ [])) high
-        (subst (λ (p : Point). Chain (Goes (opposite_number d)) (greater_end x ∷ reverse vs ++ p ∷ [])) low
+        subst (λ m. Chain (GoesAlong m) (row_of side pieces)) same
+        (subst (λ zs. Chain (GoesAlong (opposite_number d)) (side.start ∷ zs ++ side.end ∷ [])) (sym turns)
+        (subst (λ (q : Point). Chain (GoesAlong (opposite_number d)) (q ∷ reverse vs ++ side.end ∷ [])) high
+        (subst (λ (p : Point). Chain (GoesAlong (opposite_number d)) (greater_end x ∷ reverse vs ++ p ∷ [])) low
         all)))
       where
         falls : lesser_end x ≡ side.end → greater_end x ≡ side.start
@@ -353,14 +353,14 @@ module _ (side : Side) (pieces : List Piece) (n : ℕ) (few : n < 16) (goes : Go
             subst (λ (p : Point). is_lt (compare_points p side.start) ≡ true) low
             (subst (λ (q : Point). is_lt (compare_points (lesser_end x) q) ≡ true) high x.stretch.0)
 
-    by_ends : EndsAt x side.start side.end → Chain (Goes n) (row_of side pieces)
+    by_ends : EndsAt x side.start side.end → Chain (GoesAlong n) (row_of side pieces)
     by_ends (in_order e f) = up e f
     by_ends (turned e f) = down e f
 
-  pub row_goes : Chain (Goes n) (row_of side pieces)
+  pub row_goes : Chain (GoesAlong n) (row_of side pieces)
   row_goes = go (segment_of side.start side.end) refl
     where
-      go : (o : Option Segment) → segment_of side.start side.end ≡ o → Chain (Goes n) (row_of side pieces)
+      go : (o : Option Segment) → segment_of side.start side.end ≡ o → Chain (GoesAlong n) (row_of side pieces)
       go None at = bare_row (vertices_along side pieces) (none_reversed (none_between at))
       go (Some x) at = by_ends x at (segment_ends side.start side.end x at)
 
@@ -368,10 +368,10 @@ module _ (side : Side) (pieces : List Piece) (n : ℕ) (few : n < 16) (goes : Go
 
 -- a part goes from one point of the row to the next
 pub record IsPartOf (d : Dir) (h : HalfEdge) : Type 0 where
-  pub runs : Goes (dir_number d) h.start h.end
+  pub runs : GoesAlong (dir_number d) h.start h.end
   pub dir : h.dir ≡ d
 
-pub part_is : (d : Dir) (u : Point) (vs : List Point) (h : HalfEdge) → Chain (Goes (dir_number d)) (u ∷ vs)
+pub part_is : (d : Dir) (u : Point) (vs : List Point) (h : HalfEdge) → Chain (GoesAlong (dir_number d)) (u ∷ vs)
     → Member (parts_from d u vs) h → IsPartOf d h
 part_is d u [] h c m = absurd m
 part_is d u (v ∷ vs) h c (inl at) =

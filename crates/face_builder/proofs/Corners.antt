@@ -22,7 +22,8 @@ use Rattle.crease_model.specs.Sheet.{is_left_turn, is_sheet}
 use Rattle.crease_model.specs.PartLaws.{EndsAt, in_order, turned, segment_ends, left_turn, sheet_turns}
 use Rattle.line_split.specs.MemberLaws.{Member}
 use Rattle.face_builder.proofs.Apart.{moves, moves_back}
-use Rattle.face_builder.proofs.Border.{Goes, few_number}
+use Rattle.face_builder.proofs.Border.{few_number}
+use Rattle.plane_geometry.specs.Ends.{GoesAlong}
 use Rattle.face_builder.proofs.Sheets.{AreSheetSides, sheet_sides, side_runs}
 
 -- ---- neighbours
@@ -275,7 +276,7 @@ module _ (corners : List Point) (sheet : is_sheet corners ≡ true) (side : Side
   abbrev b : Position
   b = position_of side.end
 
-  runs : (s : Side) → Member (sides_of corners) s → Goes (side_number s) s.start s.end × (side_number s < 16)
+  runs : (s : Side) → Member (sides_of corners) s → GoesAlong (side_number s) s.start s.end × (side_number s < 16)
   runs s k = side_runs (sides_of corners) sides s k
 
   -- in line with the side, and with the segment that it is

@@ -24,7 +24,8 @@ use Rattle.face_builder.specs.HalfEdge.{forward, backward, both_ways, parts_from
 use Rattle.face_builder.specs.Vertices.{vertices_along}
 use Rattle.face_builder.proofs.Apart.{moves}
 use Rattle.face_builder.proofs.AtBorder.{IsBorder, IsWay, border_is, way_left, part_ends}
-use Rattle.face_builder.proofs.Border.{Goes, Runs, row_goes, row_of}
+use Rattle.face_builder.proofs.Border.{Runs, row_goes, row_of}
+use Rattle.plane_geometry.specs.Ends.{GoesAlong}
 use Rattle.face_builder.proofs.Chains.{Chain, member_either}
 use Rattle.face_builder.proofs.LeavesApart.{IsNumbered, numbered_member, leave_once}
 use Rattle.face_builder.proofs.Sheets.{sheet_sides, one_direction, side_runs}
@@ -54,27 +55,27 @@ not_along_itself n p few a =
     let same = along_unique (opposite_number n) n p p (omega arith) few back a in
     absurd (omega (arith, same, few))
 
-pub row_later : (n : ℕ) (u : Point) (vs : List Point) (v : Point) → Chain (Goes n) (u ∷ vs) → Member vs v
-    → Goes n u v
+pub row_later : (n : ℕ) (u : Point) (vs : List Point) (v : Point) → Chain (GoesAlong n) (u ∷ vs) → Member vs v
+    → GoesAlong n u v
 row_later n u [] v c m = absurd m
-row_later n u (w ∷ ws) v c (inl at) = subst (λ (z : Point). Goes n u z) at c.0
+row_later n u (w ∷ ws) v c (inl at) = subst (λ (z : Point). GoesAlong n u z) at c.0
 row_later n u (w ∷ ws) v c (inr m) =
     along_on n (position_of u) (position_of w) (position_of v) c.0 (row_later n w ws v c.1 m)
 
 -- parts of one row that start in one point are one
 part_once : (d : Dir) (n : ℕ) (few : n < 16) (u : Point) (vs : List Point) (g h : HalfEdge)
-    → Chain (Goes n) (u ∷ vs)
+    → Chain (GoesAlong n) (u ∷ vs)
     → Member (parts_from d u vs) g → Member (parts_from d u vs) h → g.start ≡ h.start → g ≡ h
 part_once d n few u [] g h c a b e = absurd a
 part_once d n few u (v ∷ vs) g h c (inl a) (inl b) e = sym a ∙ b
 part_once d n few u (v ∷ vs) g h c (inl a) (inr b) e =
     let later = row_later n u (v ∷ vs) h.start c (part_ends d v vs h b).0 in
     let same : h.start ≡ u = sym e ∙ ap (λ (k : HalfEdge). k.start) (sym a) in
-    absurd (not_along_itself n (position_of u) few (subst (λ (z : Point). Goes n u z) same later))
+    absurd (not_along_itself n (position_of u) few (subst (λ (z : Point). GoesAlong n u z) same later))
 part_once d n few u (v ∷ vs) g h c (inr a) (inl b) e =
     let later = row_later n u (v ∷ vs) g.start c (part_ends d v vs g a).0 in
     let same : g.start ≡ u = e ∙ ap (λ (k : HalfEdge). k.start) (sym b) in
-    absurd (not_along_itself n (position_of u) few (subst (λ (z : Point). Goes n u z) same later))
+    absurd (not_along_itself n (position_of u) few (subst (λ (z : Point). GoesAlong n u z) same later))
 part_once d n few u (v ∷ vs) g h c (inr a) (inr b) e = part_once d n few v vs g h c.1 a b e
 
 pub end_in : (d : Dir) (u : Point) (vs : List Point) (h : HalfEdge) → Member (parts_from d u vs) h
@@ -85,21 +86,21 @@ end_in d u (v ∷ vs) h (inr m) = inr (end_in d v vs h m)
 
 -- a part of a row ends behind its first point
 end_later : (d : Dir) (n : ℕ) (few : n < 16) (v : Point) (vs : List Point) (h : HalfEdge)
-    → Chain (Goes n) (v ∷ vs)
+    → Chain (GoesAlong n) (v ∷ vs)
     → Member (parts_from d v vs) h → v ≡ h.end → ⊥
 end_later d n few v [] h c m e = absurd m
 end_later d n few v (w ∷ ws) h c (inl at) e =
     let same : w ≡ v = ap (λ (k : HalfEdge). k.end) at ∙ sym e in
-    not_along_itself n (position_of v) few (subst (λ (z : Point). Goes n v z) same c.0)
+    not_along_itself n (position_of v) few (subst (λ (z : Point). GoesAlong n v z) same c.0)
 end_later d n few v (w ∷ ws) h c (inr m) e =
     let later =
     along_on n (position_of v) (position_of w) (position_of h.end) c.0
     (row_later n w ws h.end c.1 (end_in d w ws h m)) in
-    not_along_itself n (position_of v) few (subst (λ (z : Point). Goes n v z) (sym e) later)
+    not_along_itself n (position_of v) few (subst (λ (z : Point). GoesAlong n v z) (sym e) later)
 
 -- parts of one row that end in one point are one
 part_end_once : (d : Dir) (n : ℕ) (few : n < 16) (u : Point) (vs : List Point) (g h : HalfEdge)
-    → Chain (Goes n) (u ∷ vs)
+    → Chain (GoesAlong n) (u ∷ vs)
     → Member (parts_from d u vs) g → Member (parts_from d u vs) h → g.end ≡ h.end → g ≡ h
 part_end_once d n few u [] g h c a b e = absurd a
 part_end_once d n few u (v ∷ vs) g h c (inl a) (inl b) e = sym a ∙ b
@@ -141,7 +142,7 @@ module _ (p : PatternView) (sheet : is_sheet p.corners ≡ true) (rules : IsPatt
         | inr n ↦ inr (border_is p sheet rules h n)
       ]
 
-  pub few_of : (s : Side) → Member (sides_of p.corners) s → Goes (side_number s) s.start s.end
+  pub few_of : (s : Side) → Member (sides_of p.corners) s → GoesAlong (side_number s) s.start s.end
       × (side_number s < 16)
   few_of s m = side_runs (sides_of p.corners) (sheet_sides p.corners sheet) s m
 
@@ -149,7 +150,7 @@ module _ (p : PatternView) (sheet : is_sheet p.corners ≡ true) (rules : IsPatt
       ≡ side_number t → s ≡ t
   side_same s t m k e = one_direction (sides_of p.corners) (sheet_sides p.corners sheet) s t m k e
 
-  pub row : (s : Side) → Member (sides_of p.corners) s → Chain (Goes (side_number s)) (row_of s p.pieces)
+  pub row : (s : Side) → Member (sides_of p.corners) s → Chain (GoesAlong (side_number s)) (row_of s p.pieces)
   row s m = row_goes s p.pieces (side_number s) (few_of s m).1 (few_of s m).0
 
   pub same_directions : (n m : ℕ) (u v : Position) → n ≡ m → is_along m u v ≡ true → turn_sign n m ≡ Zero

@@ -19,7 +19,8 @@ use Rattle.face_builder.specs.HalfEdge.{forward, backward, both_ways, parts_from
 use Rattle.face_builder.specs.Sorted.{sorted_with, sorted_list}
 use Rattle.face_builder.specs.Vertices.{vertices_along}
 use Rattle.face_builder.proofs.AtBorder.{part_ends}
-use Rattle.face_builder.proofs.Border.{Goes, row_goes}
+use Rattle.face_builder.proofs.Border.{row_goes}
+use Rattle.plane_geometry.specs.Ends.{GoesAlong}
 use Rattle.face_builder.proofs.Chains.{Chain, member_either, flat_member}
 use Rattle.face_builder.proofs.Departures.{row_later, not_along_itself}
 use Rattle.face_builder.proofs.Nexts.{member_of_place}
@@ -117,7 +118,7 @@ part_plain d u (v ∷ vs) h (inl at) =
     (sym (ap (λ (g : HalfEdge). g.piece) at), sym (ap (λ (g : HalfEdge). g.dir) at))
 part_plain d u (v ∷ vs) h (inr m) = part_plain d v vs h m
 
-parts_distinct : (d : Dir) (n : ℕ) → n < 16 → (u : Point) (vs : List Point) → Chain (Goes n) (u ∷ vs)
+parts_distinct : (d : Dir) (n : ℕ) → n < 16 → (u : Point) (vs : List Point) → Chain (GoesAlong n) (u ∷ vs)
     → Distinct (parts_from d u vs)
 parts_distinct d n few u [] c = tt
 parts_distinct d n few u (v ∷ vs) c = (

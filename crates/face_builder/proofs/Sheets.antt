@@ -19,7 +19,7 @@ use Rattle.crease_model.specs.Sheet.{is_left_turn, is_least_first, is_sheet}
 use Rattle.crease_model.specs.PartLaws.{direction_is_along, left_turn}
 use Rattle.line_split.specs.MemberLaws.{Member}
 use Rattle.face_builder.proofs.Apart.{moves, moves_back}
-use Rattle.face_builder.proofs.Border.{Goes}
+use Rattle.plane_geometry.specs.Ends.{GoesAlong}
 use Rattle.face_builder.proofs.Chains.{member_left, member_right, member_either}
 use Rattle.face_builder.proofs.Sides.{all_sides}
 
@@ -215,7 +215,7 @@ module _ (side : Side) (few : side_number side < 16) (a : ℕ) (is_angle : side_
   NotRight p = is_negative (side_of u n (position_of p)) ≡ false
 
   abbrev Runs : Side → Type 0
-  Runs s = Goes (side_number s) s.start s.end
+  Runs s = GoesAlong (side_number s) s.start s.end
 
   abbrev StepOf : Side → Sgn
   StepOf s = side_of (position_of s.start) n (position_of s.end)
@@ -363,7 +363,7 @@ zero_not_neg : (s : Sgn) → s ≡ Zero → is_negative s ≡ false
 zero_not_neg s e = ap is_negative e
 
 module _ (sides : List Side) (sheet : AreSheetSides sides) where
-  pub side_runs : (s : Side) → Member sides s → Goes (side_number s) s.start s.end × (side_number s < 16)
+  pub side_runs : (s : Side) → Member sides s → GoesAlong (side_number s) s.start s.end × (side_number s < 16)
   side_runs s m =
       direction_is_along (position_of s.start) (position_of s.end) (all_sides sides s sheet.directed m)
 
@@ -383,7 +383,7 @@ module _ (sides : List Side) (sheet : AreSheetSides sides) where
       lift_append (r.angle + 1) (sheet.low + 16) (r.angle + 16) cs bs r.behind
       (lift_shift sheet.low r.angle bs r.before) in
       let around : Joined s.end (cs ++ bs) s.start = joined_append s.end sheet.corner s.start cs bs j.1 j.0 in
-      let all : (x : Side) → Member (cs ++ bs) x → Goes (side_number x) x.start x.end × (side_number x < 16) =
+      let all : (x : Side) → Member (cs ++ bs) x → GoesAlong (side_number x) x.start x.end × (side_number x < 16) =
       λ x o.
       side_runs x
       (subst (λ ss. Member ss x) (sym split.2)

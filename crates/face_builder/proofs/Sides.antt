@@ -14,7 +14,8 @@ use Rattle.line_split.specs.MemberLaws.{Member}
 use Rattle.face_builder.specs.declared.half_edges.HalfEdge.{HalfEdge}
 use Rattle.face_builder.specs.HalfEdge.{forward, backward, both_ways, side_parts, border_parts, all_half_edges, compare_half_edges, half_edges_of}
 use Rattle.face_builder.specs.Vertices.{vertices_along}
-use Rattle.face_builder.proofs.Border.{Goes, Runs, forward_runs, backward_runs, row_goes, part_is, part_leads, first_part}
+use Rattle.face_builder.proofs.Border.{Runs, forward_runs, backward_runs, row_goes, part_is, part_leads, first_part}
+use Rattle.plane_geometry.specs.Ends.{GoesAlong}
 use Rattle.face_builder.proofs.Chains.{Chain, member_left, member_right, member_either, member_flat, flat_member}
 use Rattle.face_builder.proofs.Ordered.{half_edges_total, tied_half_edges}
 use Rattle.face_builder.proofs.Sorting.{in_order_member, member_in_order}
@@ -59,10 +60,10 @@ side_runs pieces side h has m =
     let n = side_number side in
     let along = direction_is_along (position_of side.start) (position_of side.end) has in
     let same : n % 16 ≡ n = omega (arith, along.1) in
-    let row = subst (λ k. Chain (Goes k) (side.start ∷ vertices_along side pieces ++ side.end ∷ []))
+    let row = subst (λ k. Chain (GoesAlong k) (side.start ∷ vertices_along side pieces ++ side.end ∷ []))
     (sym same) (row_goes side pieces n along.1 along.0) in
     let part = part_is (dir_of n) side.start (vertices_along side pieces ++ side.end ∷ []) h row m in
-    subst (λ (d : Dir). Goes (dir_number d) h.start h.end) (sym part.dir) part.runs
+    subst (λ (d : Dir). GoesAlong (dir_number d) h.start h.end) (sym part.dir) part.runs
 
 pub all_sides : (sides : List Side) (side : Side) → list_all has_direction sides ≡ true → Member sides side
     → has_direction side ≡ true

@@ -24,7 +24,7 @@ use Rattle.fold_jobs.specs.declared.folding_job.FoldAnswer.TheVariants.{Shown, N
 use Rattle.fold_jobs.specs.declared.refusal.JobRefusal.{JobRefusal}
 use Rattle.fold_jobs.specs.Limits.{greatest_budget}
 use Rattle.fold_jobs.specs.Machine.{JobsView, job_at, is_full, changed_from, opened_in, ask_answer, after_ask, answer_to, after_answer_to, cancel_answer, after_cancel, MatchesIn, posted_in}
-use Rattle.fold_jobs.specs.Record.{JobsEvent, Open, Ask, SetBudget, EditAnswer as Answering, Cancel as Cancelling, Post, after_event, jobs_after, IsRecordFrom, IsRightPostIn}
+use Rattle.fold_jobs.specs.Record.{JobsEvent, Open, Ask, SetBudget, Answer as Answering, Cancel as Cancelling, Post, after_event, jobs_after, IsRecordFrom, IsRightPostIn}
 use Rattle.fold_jobs.specs.OwnEvents.{own_events_from, shown_by, shown_by_event as shown_by_job, ShownOrder}
 use Rattle.script_lang.specs.declared.block.LoadStop.{LoadStop}
 use Rattle.script_lang.specs.declared.block.LoadStop.TheVariants as stop

@@ -114,7 +114,7 @@ equal_equiv : IsEquivalence equal_points
 equal_equiv = subst (λ (E : Point → Point → Bool). IsEquivalence E) (λ i p q. sym (equal_is p q) i)
     (eq_by_cmp_equiv points_total)
 
-equal_point : (p q : Point) → equal_points p q ≡ true → p ≡ q
+pub equal_point : (p q : Point) → equal_points p q ≡ true → p ≡ q
 equal_point p q e = point_is p q
     (zero_is (order_of (position_of p) (position_of q))
     (sym (same_is (position_of p) (position_of q)) ∙ sym (equal_is p q) ∙ e))
