@@ -145,7 +145,7 @@ text() {
 block() {
     awk -v kind="$1" 'BEGIN {
         print "load"
-        for (n = 0; n < 160000; n++) {
+        for (n = 0; n < 120000; n++) {
             if (kind == "lines") print 4, n * 7 % 200 ".0000", "-100.00", n * 7 % 200 ".0000", "100.00"
             if (kind == "edges") print 1, "-200.00 -200.00", "200.00 -200.00"
             if (kind == "held") print 2, "-200.00 10.00", "200.00 10.00"
