@@ -207,5 +207,5 @@ if [ -x "$editor" ]; then
     all_examples
     strips 12 16 17 18 19
 else
-    echo "script text and examples are left out: the editor is not built yet (./oriedita builds it)"
+    echo "script text and examples are left out: the editor is not built yet (./oriedita --build builds it)"
 fi

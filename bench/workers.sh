@@ -2,7 +2,7 @@
 # Runs random scripts (200 where its first word gives no other number) on 8 workers and on none. The replies have to be
 # alike, the lines apart that a peek decides: where it finds the answer the wait behind it is refused. Then it times, by
 # the clock, the example that takes longest and four asks that are all put before the first is waited for, on 0, 1, 2
-# and 4 workers. It needs the editor, which one run of ./oriedita builds.
+# and 4 workers. It needs the editor, which ./oriedita --build builds.
 cd "$(dirname "$0")" || exit 1
 count="${1:-200}"
 editor=../crates/oriedita/out/oriedita

@@ -67,8 +67,9 @@ pub record IsTooLong (file : ToldFiles) (path : Option (List ℕ)) : Type 0 wher
   pub read : ReadsUpTo (file named) (script_limit + 1) bytes
   pub long : script_limit < length bytes
 
--- No script was read, and nothing was run: the words are refused, or the file was not read, or memory was refused. The
--- faults are those of the opener, before and now.
+-- No script was read, and nothing was run: the words are refused, or the file could not be read (and then perhaps the
+-- output not be finished), or more bytes of it were read than a file may have, or memory was refused. The faults are those
+-- of the opener, before and now.
 pub record IsUnread (file : ToldFiles) (path : Option (List ℕ)) (status : ℕ) (events : List Event)
     (bytes : List ℕ) (faults faults' : ℕ) : Type 0 where
   pub none : events ≡ []

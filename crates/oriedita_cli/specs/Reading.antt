@@ -30,7 +30,7 @@ pub record IsScript (file : ToldFiles) (path : Option (List ℕ)) (reading : Rea
   pub of_file : IsFirst file path first
   pub behind : IsReadBehind first reading bytes faults faults'
 
--- The file was not read, and so nothing of the script; the faults are the opener's.
+-- The file gave no command, so nothing of the script was read; the faults are the opener's.
 pub record IsNoFile (file : ToldFiles) (path : Option (List ℕ)) (fault : Unread) (bytes : List ℕ)
     (faults faults' : ℕ) : Type 0 where
   pub unread : bytes ≡ []

@@ -23,7 +23,7 @@ pub(crate) enum Reading {
     Cut(Commands),
     /// The script is too long, or memory was refused; the exit status.
     Nothing(u8),
-    /// The file was not read, and so no script.
+    /// The file gave no command, so no script was read.
     NoFile(Unread),
     /// A sample is to be folded, and nothing was read.
     Sample(u32),
