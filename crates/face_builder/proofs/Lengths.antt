@@ -1,6 +1,7 @@
 -- There are few half-edges.
-use Rattle.std.proofs.Common.{◌≡◌, ℕ, ◌+◌, ◌*◌, ◌≤◌, ◌<◌, ◌&&◌, Bool, true, List, [], ◌∷◌, ◌++◌, length, flat_map, reverse, refl, arith}
-use Rattle.std.specs.Prelude.{nat_le}
+use Rattle.std.proofs.Common.{◌≡◌, ℕ, ◌+◌, ◌*◌, ◌≤◌, ◌<◌, ◌&&◌, Bool, true, List, [], ◌∷◌, ◌++◌, Option, None, Some, length, map, flat_map, reverse, nat_eq, refl, arith}
+use Rattle.std.specs.Prelude.{nat_le, slice_get}
+use Rattle.std.specs.List.{AllByRecursion}
 use Rattle.std.specs.Ordering.{is_lt}
 use Rattle.std.specs.declared.cmp.Ordering.{Ordering}
 use Rattle.std.proofs.lemmas.Bool.{cond_both, and_parts, leb-true}
@@ -16,8 +17,11 @@ use Rattle.crease_model.specs.Rules.{IsPattern}
 use Rattle.face_builder.specs.declared.half_edges.HalfEdge.{HalfEdge}
 use Rattle.face_builder.specs.HalfEdge.{compare_half_edges, both_ways, parts_from, side_parts, border_parts, all_half_edges, half_edges_of}
 use Rattle.plane_geometry.specs.DirView.{dir_of}
-use Rattle.face_builder.specs.Cycle.{is_leader, leaders_from}
-use Rattle.face_builder.specs.Faces.{led_face, led_faces}
+use Rattle.face_builder.specs.Cycle.{next_of, is_leader, rest_from, cycle_from, leaders_from}
+use Rattle.face_builder.specs.Faces.{half_edge_in, half_edges_at, led_face, led_faces, faces_among, faces_of, corners_of}
+use Rattle.face_builder.specs.Fan.{next_place, nexts_of}
+use Rattle.face_builder.specs.MapRules.{most_corners}
+use Rattle.face_builder.specs.Shared.{shared_from}
 use Rattle.face_builder.specs.Sorted.{sorted_with, sorted_list, others_after, each_once}
 use Rattle.face_builder.specs.Vertices.{is_between_corners, point_between, ends_between, vertices_between, vertices_along}
 use Rattle.plane_geometry.specs.Position.{compare_points, is_same_point}
@@ -126,10 +130,9 @@ few_corners corners e =
     let a = (and_parts (nat_le 3 (length corners) && nat_le (length corners) 16) _ e).0 in
     leb-true (length corners) 16 (and_parts (nat_le 3 (length corners)) (nat_le (length corners) 16) a).1
 
-pub few_half_edges : (p : PatternView) → is_sheet p.corners ≡ true → IsPattern p → length (half_edges_of p)
-    < 4294967295
+half_edges_count : (p : PatternView) → is_sheet p.corners ≡ true → IsPattern p → length (half_edges_of p) ≤ 68016
 unfolding half_edges_of
-few_half_edges p sheet pattern =
+half_edges_count p sheet pattern =
     let few : length p.pieces ≤ 2000 = omega (arith, pattern.size) in
     omega (
       arith,
@@ -141,6 +144,10 @@ few_half_edges p sheet pattern =
       length_ways 1 p.pieces,
       length_sides p.pieces (sides_of p.corners) few,
     )
+
+pub few_half_edges : (p : PatternView) → is_sheet p.corners ≡ true → IsPattern p → length (half_edges_of p)
+    < 4294967295
+few_half_edges p sheet pattern = omega (arith, half_edges_count p sheet pattern)
 
 -- ---- there are as many faces at most
 
@@ -155,3 +162,59 @@ leaders_count nexts i (next ∷ rest) =
 pub faces_count : (hs : List HalfEdge) (nexts : List ℕ) → length (led_faces hs nexts) ≤ length nexts
 faces_count hs nexts =
     omega (arith, length-map (leaders_from nexts 0 nexts) (led_face hs nexts), leaders_count nexts 0 nexts)
+
+-- ---- and as many corners of a face
+
+rest_count : (nexts : List ℕ) (first : ℕ) (steps : List ℕ) (i : ℕ)
+    → length (rest_from nexts first steps i) ≤ length steps
+rest_count nexts first [] i = omega arith
+rest_count nexts first (step ∷ steps) i =
+    cond_both (nat_eq i first) [] (i ∷ rest_from nexts first steps (next_of nexts i))
+    (λ zs. length zs ≤ length (step ∷ steps))
+    (λ e. omega arith) (λ e. omega (arith, rest_count nexts first steps (next_of nexts i)))
+
+in_place : (o : Option HalfEdge) → length (half_edge_in o) ≤ 1
+in_place None = omega arith
+in_place (Some h) = omega arith
+
+places_count : (hs : List HalfEdge) (places : List ℕ) → length (half_edges_at hs places) ≤ length places
+places_count hs [] = omega arith
+places_count hs (i ∷ places) =
+    omega (
+      arith,
+      length-append (half_edge_in (slice_get hs i)) (half_edges_at hs places),
+      in_place (slice_get hs i),
+      places_count hs places,
+    )
+
+led_count : (hs : List HalfEdge) (nexts : List ℕ) (i : ℕ) → length (led_face hs nexts i) ≤ length nexts + 1
+unfolding cycle_from
+led_count hs nexts i =
+    omega (arith, places_count hs (cycle_from nexts i), rest_count nexts i nexts (next_of nexts i))
+
+HasFewCorners : List Point → Type 0
+HasFewCorners corners = length corners ≤ most_corners
+
+all_few : (hs : List HalfEdge) (nexts places : List ℕ) → length nexts ≤ 68016
+    → AllByRecursion HasFewCorners (map corners_of (map (led_face hs nexts) places))
+unfolding HasFewCorners
+all_few hs nexts [] few = tt
+all_few hs nexts (i ∷ places) few = (
+  omega (arith, few, led_count hs nexts i, length-map (led_face hs nexts i) (λ (h : HalfEdge). h.start)),
+  all_few hs nexts places few,
+)
+
+pub corners_few : (p : PatternView) → is_sheet p.corners ≡ true → IsPattern p
+    → AllByRecursion (λ corners. length corners ≤ most_corners) (map corners_of (faces_of p))
+unfolding faces_among nexts_of HasFewCorners
+corners_few p sheet pattern =
+    let hs = half_edges_of p in
+    all_few hs (nexts_of hs) (leaders_from (nexts_of hs) 0 (nexts_of hs))
+    (omega (arith, half_edges_count p sheet pattern, length-map hs (next_place hs)))
+
+-- ---- and as many shared pieces as pieces
+
+pub shared_count : (faces : List (List HalfEdge)) (k : ℕ) (ps : List Piece)
+    → length (shared_from faces k ps) ≡ length ps
+shared_count faces k [] = refl
+shared_count faces k (p ∷ ps) = omega (arith, shared_count faces (k + 1) ps)

@@ -12,6 +12,7 @@ mod FaceOrder
 mod FanMaps
 mod LeastFirst
 mod LeavesApart
+mod InOrder
 mod KindLaws
 mod Lengths
 mod MapLaws

@@ -13,6 +13,7 @@ use Rattle.face_builder.specs.HalfEdge.{half_edges_of}
 use Rattle.face_builder.specs.MapRules.{AreFaces}
 use Rattle.face_builder.proofs.AcrossLaws.{numbered_at, all_walk, few_steps}
 use Rattle.face_builder.proofs.FaceOrder.{faces_ascend}
+use Rattle.face_builder.proofs.Lengths.{corners_few, shared_count}
 use Rattle.face_builder.proofs.Polygons.{all_convex, few_by, faces_least, neither, not_mapped}
 use Rattle.face_builder.proofs.SharedLaws.{all_shared}
 use Rattle.face_builder.proofs.WalkLaws.{all_reached}
@@ -35,11 +36,13 @@ map_rules p sheet rules convex size =
             few_by (length (faces_among (half_edges_of p))) _ size,
             length-map (faces_among (half_edges_of p)) corners_of,
           );
+      corners = corners_few p sheet rules;
       convex = all_convex p sheet convex;
       least = faces_least p (sheet_turns p.corners sheet).0 (faces_among (half_edges_of p)) (λ f m. m);
       ascending = faces_ascend p sheet rules;
       shared = all_shared p sheet rules convex;
       numbered = λ k s at. omega (arith, numbered_at faces 1 p.pieces k s at);
+      pieces = omega (arith, shared_count faces 1 p.pieces, rules.size);
       walk = all_walk p sheet rules convex;
       short =
           omega (

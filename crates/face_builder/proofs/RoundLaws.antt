@@ -2,6 +2,7 @@
 use Rattle.std.proofs.Common.{◌≡◌, ℕ, ◌≤◌, ◌<◌, true, inl, inr, List, [], ◌∷◌, refl, sym, subst, ◌∙◌, arith}
 use Rattle.std.specs.Prelude.{Contains}
 use Rattle.std.specs.List.{AllByRecursion}
+use Rattle.std.proofs.lemmas.Option.{get_or_from_slice_get}
 use Rattle.plane_geometry.specs.DirView.{dir_number}
 use Rattle.std.specs.List.{list_all}
 use Rattle.plane_geometry.specs.Polygon.{sides_of, has_direction}
@@ -11,10 +12,10 @@ use Rattle.crease_model.specs.PartLaws.{sheet_turns}
 use Rattle.crease_model.specs.View.{PatternView}
 use Rattle.line_split.specs.MemberLaws.{Member, member, contained}
 use Rattle.face_builder.specs.declared.half_edges.HalfEdge.{HalfEdge}
-use Rattle.face_builder.specs.Faces.{faces_among, face_map_of}
-use Rattle.face_builder.specs.Fan.{interior_angle}
+use Rattle.face_builder.specs.Faces.{faces_among, next_half_edge}
+use Rattle.face_builder.specs.Fan.{interior_angle, next_place}
 use Rattle.face_builder.specs.HalfEdge.{half_edges_of}
-use Rattle.face_builder.specs.Round.{IsNext, IsClosedWalk, IsRoundOf, IsInOneFace, ArePartition, AreRoundsOf}
+use Rattle.face_builder.specs.Round.{IsNext, IsClosedWalk, IsRoundOf, IsInOneFace, ArePartition, AreParted}
 use Rattle.face_builder.proofs.Arrivals.{arrive_once}
 use Rattle.face_builder.proofs.Cover.{covered, place_once}
 use Rattle.face_builder.proofs.Departures.{kind_of, depart_once}
@@ -99,10 +100,15 @@ module _ (p : PatternView) (sheet : is_sheet p.corners ≡ true) (rules : IsPatt
         only = λ i other e d. place_once p sheet rules i at.0 other home.0 h e at.1 (member other h d) home.2;
       }
 
-  pub partition : ArePartition hs (faces_among hs)
+  partition : ArePartition hs (faces_among hs)
   partition =
       record { rounds = rounds_are (faces_among hs) (λ f m. m); once = in_one; permutation = permutes }
 
-pub map_rounds : (p : PatternView) → is_sheet p.corners ≡ true → IsPattern p → AreRoundsOf p (face_map_of p)
-unfolding face_map_of
-map_rounds p sheet rules = (faces_among (half_edges_of p), refl, partition p sheet rules)
+  next_is : (h : HalfEdge) → Contains hs h → IsNext hs h (next_half_edge hs h)
+  next_is h c =
+      let g = goes h (member hs h c) in
+      let same : next_half_edge hs h ≡ g.0 = get_or_from_slice_get hs (next_place hs h) g.0 h g.1.stands in
+      subst (λ x. IsNext hs h x) (sym same) (goes_is_next hs h g.0 g.1)
+
+  pub parted : AreParted p
+  parted = record { next = next_is; partition = partition }

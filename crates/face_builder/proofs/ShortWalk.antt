@@ -23,7 +23,7 @@ module _ (shared : List SharedPiece) where
   leads_anew before (s ∷ steps) w t (inr m) f e same =
       leads_anew (before ++ s ∷ []) steps w.1 t m f (reached_later before s f e) same
 
-  just_reached : (before : List Step) (s : Step) → is_reached (before ++ s ∷ []) s.face ≡ true
+  pub just_reached : (before : List Step) (s : Step) → is_reached (before ++ s ∷ []) s.face ≡ true
   just_reached before s =
       or_right (nat_eq s.face 1) _
       (member_any (λ (x : Step). nat_eq x.face s.face) (before ++ s ∷ []) s (last before)

@@ -8,7 +8,7 @@ use Rattle.line_split.specs.MemberLaws.{Member, member, any_member, member_any}
 use Rattle.face_builder.specs.declared.half_edges.HalfEdge.{HalfEdge}
 use Rattle.face_builder.specs.declared.shared.SharedPiece.{SharedPiece}
 use Rattle.face_builder.specs.declared.walk.Step.{Step}
-use Rattle.face_builder.specs.MapRules.{AreAcross, IsStep, IsWalk}
+use Rattle.face_builder.specs.MapRules.{AllAfter, AreAcross, IsStep, IsWalk}
 use Rattle.face_builder.specs.Walk.{has_step_to, is_reached, face_across, with_step, with_side, with_neighbours, face_half_edges, walked_face, walked_or, walk_from, walk_of, first_unreached}
 use Rattle.face_builder.proofs.Chains.{member_left}
 use Rattle.face_builder.proofs.Nexts.{member_of_place}
@@ -27,16 +27,17 @@ reached_later before s f e =
           (member_left before (s ∷ []) w.0 w.1) w.2))
     ]
 
-module _ (shared : List SharedPiece) where
-  walk_append : (before xs : List Step) (s : Step) → IsWalk shared before xs → IsStep shared (before ++ xs) s
-      → IsWalk shared before (xs ++ s ∷ [])
-  walk_append before [] s w step = (subst (λ ys. IsStep shared ys s) (append-nil before) step, tt)
-  walk_append before (x ∷ xs) s w step = (
-    w.0,
-    walk_append (before ++ x ∷ []) xs s w.1
-        (subst (λ ys. IsStep shared ys s) (sym (append_assoc before (x ∷ []) xs)) step),
-  )
+-- one more step that stands in the relation to those before it
+pub all_append : (Follows : List Step → Step → Type 0) (before xs : List Step) (s : Step)
+    → AllAfter Follows before xs → Follows (before ++ xs) s → AllAfter Follows before (xs ++ s ∷ [])
+all_append Follows before [] s w step = (subst (λ ys. Follows ys s) (append-nil before) step, tt)
+all_append Follows before (x ∷ xs) s w step = (
+  w.0,
+  all_append Follows (before ++ x ∷ []) xs s w.1
+      (subst (λ ys. Follows ys s) (sym (append_assoc before (x ∷ []) xs)) step),
+)
 
+module _ (shared : List SharedPiece) where
   -- the face that a piece of this half-edge leads to from a face
   abbrev pub LeadsAcross : ℕ → Option ℕ → Type 0
   LeadsAcross from None = ⊤
@@ -50,7 +51,7 @@ module _ (shared : List SharedPiece) where
     where
       by : (b : Bool) → is_reached steps s.face ≡ b → IsWalk shared [] (cond b steps (steps ++ s ∷ []))
       by true e = w
-      by false e = walk_append [] steps s w (record { from = from; new = e; across = across })
+      by false e = all_append (IsStep shared) [] steps s w (record { from = from; new = e; across = across })
 
   with_step_keeps : (steps : List Step) (s : Step) (f : ℕ) → is_reached steps f ≡ true
       → is_reached (with_step steps s) f ≡ true

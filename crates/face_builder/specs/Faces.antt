@@ -95,6 +95,9 @@ reach_refusal walk count = option_map unreached (first_unreached walk 1 count)
 
 -- ---- the faces of a pattern
 
+abbrev pub faces_of : PatternView → List (List HalfEdge)
+faces_of p = faces_among (half_edges_of p)
+
 abbrev pub walk_among : List (List HalfEdge) → List Piece → List Step
 walk_among faces pieces = walk_of (shared_from faces 1 pieces) faces
 
@@ -112,12 +115,12 @@ size_refusal faces pieces =
     option_or (count_refusal (length faces)) (reach_refusal (walk_among faces pieces) (length faces))
 
 unfoldable pub face_map_of : PatternView → FaceMapView
-face_map_of p = map_among (faces_among (half_edges_of p)) p.pieces
+face_map_of p = map_among (faces_of p) p.pieces
 
 -- the first refusal, in this order
 unfoldable pub face_refusal : PatternView → Option FaceRefusal
 face_refusal p =
-    option_or (convex_refusal (half_edges_of p)) (size_refusal (faces_among (half_edges_of p)) p.pieces)
+    option_or (convex_refusal (half_edges_of p)) (size_refusal (faces_of p) p.pieces)
 
 -- ---- causes
 
@@ -130,16 +133,14 @@ IsNotConvexAt p at direction =
 abbrev pub AreTooMany : PatternView → ℕ → Type 0
 AreTooMany p count =
     (bad_half_edge (half_edges_of p) ≡ None)
-    × (count ≡ length (faces_among (half_edges_of p))) × (most_faces < count)
+    × (count ≡ length (faces_of p)) × (most_faces < count)
 
 -- each face is convex, they are not too many, and this is the least one that the walk does not reach
 abbrev pub IsUnreached : PatternView → ℕ → Type 0
 IsUnreached p face =
     (bad_half_edge (half_edges_of p) ≡ None)
-    × (length (faces_among (half_edges_of p)) ≤ most_faces)
-    × (first_unreached (walk_among (faces_among (half_edges_of p)) p.pieces) 1
-    (length (faces_among (half_edges_of p)))
-    ≡ Some face)
+    × (length (faces_of p) ≤ most_faces)
+    × (first_unreached (walk_among (faces_of p) p.pieces) 1 (length (faces_of p)) ≡ Some face)
 
 -- ---- answers
 

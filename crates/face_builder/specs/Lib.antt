@@ -12,3 +12,4 @@ pub mod Sorted
 pub mod Vertices
 pub mod View
 pub mod Walk
+pub mod WalkOrder

@@ -8,6 +8,7 @@ use Rattle.std.specs.declared.cmp.Ordering.{Ordering}
 use Rattle.plane_geometry.specs.declared.Point.{Point}
 use Rattle.plane_geometry.specs.Polygon.{Side, sides_of, side_number, is_convex}
 use Rattle.plane_geometry.specs.SegmentView.{lesser_end, greater_end}
+use Rattle.crease_model.specs.Rules.{most_pieces}
 use Rattle.crease_model.specs.Sheet.{is_least_first}
 use Rattle.face_builder.specs.declared.shared.SharedPiece.{SharedPiece}
 use Rattle.face_builder.specs.declared.walk.Step.{Step}
@@ -45,10 +46,14 @@ pub record IsStep (shared : List SharedPiece) (before : List Step) (s : Step) : 
   pub new : IsFalse (is_reached before s.face)
   pub across : (x : SharedPiece) × Contains shared x × (x.piece ≡ s.piece) × AreAcross x s.from s.face
 
--- each step does, after those before it
+-- each step stands in the relation to the list of those before it
+abbrev pub AllAfter : (List Step → Step → Type 0) → List Step → List Step → Type 0
+AllAfter Follows before [] = ⊤
+AllAfter Follows before (s ∷ steps) = Follows before s × AllAfter Follows (before ++ s ∷ []) steps
+
+-- each step goes so
 abbrev pub IsWalk : List SharedPiece → List Step → List Step → Type 0
-IsWalk shared before [] = ⊤
-IsWalk shared before (s ∷ steps) = IsStep shared before s × IsWalk shared (before ++ s ∷ []) steps
+IsWalk shared before steps = AllAfter (IsStep shared) before steps
 
 -- the shared pieces are numbered by their places, from 1
 abbrev pub AreNumbered : List SharedPiece → Type 0
@@ -62,16 +67,23 @@ compare_sides s t = ordering_then (compare_points s.start t.start) (nat_cmp (sid
 abbrev pub first_sides : List (List Point) → List Side
 first_sides faces = flat_map (λ corners. take 1 (sides_of corners)) faces
 
--- few faces, each of them convex, with its corners from the least one on; they ascend by this corner, then by
--- the direction of the side that leaves it; each piece between two of them; a walk of fewer steps than faces
--- may be, that reaches all of them
+-- more corners than a face can have: its half-edges are different ones of a pattern, and 2,000 pieces and 16
+-- sides have fewer
+abbrev pub most_corners : ℕ
+most_corners = 131072
+
+-- few faces, each of them convex and of few corners, from the least one on; they ascend by this corner, then
+-- by the direction of the side that leaves it; few pieces, each between two of them; a walk of fewer steps than
+-- faces may be, that reaches all of them
 pub record AreFaces (m : FaceMapView) : Type 0 where
   pub few : length m.faces ≤ most_faces
+  pub corners : AllByRecursion (λ corners. length corners ≤ most_corners) m.faces
   pub convex : IsTrue (list_all is_convex m.faces)
   pub least : IsTrue (list_all is_least_first m.faces)
   pub ascending : IsStrictlySortedBy compare_sides (first_sides m.faces)
   pub shared : AllByRecursion (IsShared m.faces) m.shared
   pub numbered : AreNumbered m.shared
+  pub pieces : length m.shared ≤ most_pieces
   pub walk : IsWalk m.shared [] m.walk
   pub short : length m.walk < most_faces
   pub reached : (f : ℕ) → 1 ≤ f → f ≤ length m.faces → IsTrue (is_reached m.walk f)

@@ -1,13 +1,12 @@
 -- Which half-edge goes on from another, what a face is, and how faces part the half-edges: by what they are.
-use Rattle.std.specs.Prelude.{◌≡◌, ℕ, ◌≤◌, List, [], ◌∷◌, map, Some, Contains, slice_get}
+use Rattle.std.specs.Prelude.{◌≡◌, ℕ, ◌≤◌, List, [], ◌∷◌, Some, Contains, slice_get}
 use Rattle.std.specs.List.{AllByRecursion}
 use Rattle.plane_geometry.specs.DirView.{dir_number}
 use Rattle.crease_model.specs.View.{PatternView}
 use Rattle.face_builder.specs.declared.half_edges.HalfEdge.{HalfEdge}
-use Rattle.face_builder.specs.Faces.{corners_of}
+use Rattle.face_builder.specs.Faces.{faces_of, next_half_edge}
 use Rattle.face_builder.specs.Fan.{interior_angle}
 use Rattle.face_builder.specs.HalfEdge.{half_edges_of}
-use Rattle.face_builder.specs.View.{FaceMapView}
 
 -- the angle of a face that comes in by g and goes on by h
 abbrev pub angle_between : HalfEdge → HalfEdge → ℕ
@@ -44,7 +43,8 @@ pub record ArePartition (hs : List HalfEdge) (faces : List (List HalfEdge)) : Ty
   pub once : (h : HalfEdge) → Contains hs h → IsInOneFace faces h
   pub permutation : (g h e : HalfEdge) → Contains hs g → Contains hs h → IsNext hs g e → IsNext hs h e → g ≡ h
 
--- the faces of the map are those closed walks, by their corners
-abbrev pub AreRoundsOf : PatternView → FaceMapView → Type 0
-AreRoundsOf p m =
-    (faces : List (List HalfEdge)) × (m.faces ≡ map corners_of faces) × ArePartition (half_edges_of p) faces
+-- which half-edge goes on from each of a pattern, and that its faces are closed walks which part them
+pub record AreParted (p : PatternView) : Type 0 where
+  pub next : (h : HalfEdge) → Contains (half_edges_of p) h
+      → IsNext (half_edges_of p) h (next_half_edge (half_edges_of p) h)
+  pub partition : ArePartition (half_edges_of p) (faces_of p)

@@ -10,9 +10,10 @@ ghost use Rattle.face_builder.specs.HalfEdge.{half_edges_of};
 ghost use Rattle.face_builder.specs.HalfEdgeKinds.{IsHalfEdge};
 ghost use Rattle.face_builder.specs.declared.half_edges.HalfEdge.{HalfEdge};
 ghost use Rattle.face_builder.specs.MapRules.{AreFaces};
-ghost use Rattle.face_builder.specs.Round.{AreRoundsOf};
+ghost use Rattle.face_builder.specs.Round.{AreParted};
 ghost use Rattle.face_builder.specs.View.{corners_at};
-ghost use Rattle.face_builder.specs.Faces.{faces_among, convex_refusal, size_refusal, map_among, face_refusal, face_map_of, IsNotConvexAt, AreTooMany, IsUnreached, HasMemory, IsFaceMap, IsFaceFault};
+ghost use Rattle.face_builder.specs.WalkOrder.{IsWalkOf};
+ghost use Rattle.face_builder.specs.Faces.{bad_half_edge, faces_among, convex_refusal, size_refusal, map_among, face_refusal, face_map_of, IsNotConvexAt, AreTooMany, IsUnreached, HasMemory, IsFaceMap, IsFaceFault};
 ghost use Rattle.face_builder.specs.declared.faults.FaceFault.TheVariants.{NotConvex, TooManyFaces, Unreached};
 ghost use Rattle.plane_geometry.specs.declared.Point.{Point};
 ghost use Rattle.plane_geometry.specs.declared.Dir.{Dir};
@@ -150,7 +151,11 @@ fn map_of(alloc: Global, pattern: &Pattern) -> Result<FaceMap, FaceFault>
 pub fn faces(alloc: Global, pattern: &Pattern) -> Result<FaceMap, FaceFault>
     ensures rules { IfOk result (λ m. AreFaces m) }
     ensures half_edges { (h : HalfEdge) → Contains (half_edges_of pattern.now) h ↔ IsHalfEdge pattern.now h }
-    ensures partition { IfOk result (λ m. AreRoundsOf pattern.now m) }
+
+    // How half-edges follow one another, the faces, and the walk, also where the pattern is refused.
+    ensures parted { AreParted pattern.now }
+    ensures walk { bad_half_edge (half_edges_of pattern.now) ≡ None → IsWalkOf pattern.now }
+
     ensures not_convex { (at : Point) (direction : Dir) → IsErrOf result (NotConvex at direction)
         ↔ (HasMemory result × IsNotConvexAt pattern.now at direction) }
     ensures too_many { (n : ℕ) → IsErrOf result (TooManyFaces n)

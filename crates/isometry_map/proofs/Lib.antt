@@ -1,3 +1,4 @@
 pub mod Widths
 pub mod Images
 pub mod Mirrors
+pub mod Insides

@@ -87,7 +87,7 @@ sides_chain : (first p : Point) (ps : List Point)
 sides_chain first p [] = refl
 sides_chain first p (q ∷ qs) = ap (λ rest. side_at p q ∷ rest) (sides_chain first q qs)
 
-sides_closed : (ps : List Point) → sides_of ps ≡ closed side_at ps
+pub sides_closed : (ps : List Point) → sides_of ps ≡ closed side_at ps
 sides_closed [] = refl
 sides_closed (p ∷ ps) = sides_chain p p ps
 
@@ -150,7 +150,7 @@ closed_rotated f (x ∷ []) = refl
 closed_rotated f (x ∷ y ∷ ys) =
     ap (λ rest. chain f (y ∷ rest)) (append_assoc ys (x ∷ []) (y ∷ [])) ∙ chain_push f (y ∷ ys) x y
 
-closed_backwards : {A B : Type 0} (f : A → A → B) (xs : List A)
+pub closed_backwards : {A B : Type 0} (f : A → A → B) (xs : List A)
     → closed f (reverse xs) ≡ rotated (reverse (closed (λ x y. f y x) xs))
 closed_backwards f [] = refl
 closed_backwards f (x ∷ xs) =
@@ -168,7 +168,7 @@ and_turned true false = refl
 and_turned false true = refl
 and_turned false false = refl
 
-all_parts : {A : Type 0} (test : A → Bool) (x : A) (xs : List A) → list_all test (x ∷ xs) ≡ true
+pub all_parts : {A : Type 0} (test : A → Bool) (x : A) (xs : List A) → list_all test (x ∷ xs) ≡ true
     → (test x ≡ true) × (list_all test xs ≡ true)
 all_parts test x xs e = and_parts (test x) (list_all test xs) e
 
@@ -176,13 +176,13 @@ all_from_parts : {A : Type 0} (test : A → Bool) (x : A) (xs : List A) → test
     → list_all test xs ≡ true → list_all test (x ∷ xs) ≡ true
 all_from_parts test x xs e f = ap₂ ◌&&◌ e f
 
-all_rotated : {A : Type 0} (test : A → Bool) (xs : List A) → list_all test (rotated xs) ≡ list_all test xs
+pub all_rotated : {A : Type 0} (test : A → Bool) (xs : List A) → list_all test (rotated xs) ≡ list_all test xs
 all_rotated test [] = refl
 all_rotated test (x ∷ xs) =
     list_all-append test xs (x ∷ []) ∙ and_turned (list_all test xs) (list_all test (x ∷ []))
     ∙ sym (list_all-append test (x ∷ []) xs)
 
-all_backwards : {A : Type 0} (test : A → Bool) (xs : List A) → list_all test (reverse xs) ≡ list_all test xs
+pub all_backwards : {A : Type 0} (test : A → Bool) (xs : List A) → list_all test (reverse xs) ≡ list_all test xs
 all_backwards test [] = refl
 all_backwards test (x ∷ xs) =
     ap (list_all test) (reverse_cons x xs) ∙ list_all-append test (reverse xs) (x ∷ [])
@@ -274,7 +274,7 @@ image_few i n = go (is_reflection i)
     go false = omega arith
 
 module _ (t : Motion) (few : t.linear < 16) where
-  goes_image : (m : ℕ) (p q p' q' : Point) → IsImage t p p' → IsImage t q q'
+  pub goes_image : (m : ℕ) (p q p' q' : Point) → IsImage t p p' → IsImage t q q'
       → Goes m (position_of p) (position_of q)
       → Goes (direction_image t.linear m) (position_of p') (position_of q')
   goes_image m p q p' q' e f g = record {
@@ -285,7 +285,7 @@ module _ (t : Motion) (few : t.linear < 16) where
         ∙ directions_go_to_directions t m (position_of p) (position_of q) few g.few ∙ g.along;
   }
 
-  goes_back : (m : ℕ) (p q p' q' : Point) → IsImage t p p' → IsImage t q q'
+  pub goes_back : (m : ℕ) (p q p' q' : Point) → IsImage t p p' → IsImage t q q'
       → Goes m (position_of p) (position_of q)
       → Goes (back_image t.linear m) (position_of q') (position_of p')
   goes_back m p q p' q' e f g =
@@ -300,7 +300,7 @@ module _ (t : Motion) (few : t.linear < 16) where
 abbrev pub number_at : Point → Point → ℕ
 number_at p q = side_number (side_at p q)
 
-number_is : (m : ℕ) (p q : Point) → Goes m (position_of p) (position_of q) → number_at p q ≡ m
+pub number_is : (m : ℕ) (p q : Point) → Goes m (position_of p) (position_of q) → number_at p q ≡ m
 number_is m p q g = ap (λ o. unwrap_or o 0) (direction_is m (position_of p) (position_of q) g.few g.along)
 
 has_is : (m : ℕ) (p q : Point) → Goes m (position_of p) (position_of q) → has_direction (side_at p q) ≡ true
@@ -357,7 +357,7 @@ module _ (t : Motion) (few : t.linear < 16) where
 
 -- ---- polygons
 
-images_joined : (t : Motion) (ps qs ps' qs' : List Point) → AreImages t ps qs → AreImages t ps' qs'
+pub images_joined : (t : Motion) (ps qs ps' qs' : List Point) → AreImages t ps qs → AreImages t ps' qs'
     → AreImages t (ps ++ ps') (qs ++ qs')
 images_joined t [] [] ps' qs' h k = k
 images_joined t [] (q ∷ qs) ps' qs' h k = absurd h

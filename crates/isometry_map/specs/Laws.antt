@@ -3,7 +3,8 @@ use Rattle.std.specs.Prelude.{◌≡◌, ◌↔◌, ℕ, ◌<◌, pos, negsuc, L
 use Rattle.surd_number.specs.Number.{IsSame, whole}
 use Rattle.plane_geometry.specs.declared.Point.{Point}
 use Rattle.plane_geometry.specs.Position.{Position}
-use Rattle.plane_geometry.specs.Polygon.{is_convex}
+use Rattle.plane_geometry.specs.Multiple.{IsSameVector}
+use Rattle.plane_geometry.specs.Polygon.{have_directions, is_convex, is_in_polygon}
 use Rattle.plane_geometry.specs.Direction.{side_of, is_along}
 use Rattle.isometry_map.specs.declared.isometries.Isometry.{Isometry}
 use Rattle.isometry_map.specs.Linear.{reflection, is_reflection, composed, direction_image, side_image}
@@ -58,3 +59,16 @@ ConvexImages =
     (t : Motion) → t.linear < 16 → (ps qs : List Point)
     → AreImages t ps qs → IsTrue (is_convex ps)
     → IsTrue (is_convex (counterclockwise (is_reflection t.linear) qs))
+
+-- a point is strictly left of all sides of a polygon exactly where its image is of those of the image, whose corners run
+-- backwards where orientation is reversed
+abbrev pub InsidesAreImages : Type 0
+InsidesAreImages =
+    (t : Motion) → t.linear < 16 → (ps qs : List Point)
+    → AreImages t ps qs → IsTrue (have_directions ps) → (p q : Position)
+    → IsSameVector q (image_by t p)
+    → is_in_polygon (counterclockwise (is_reflection t.linear) qs) q ≡ is_in_polygon ps p
+
+-- each point is the image of one
+abbrev pub EachIsAnImage : Type 0
+EachIsAnImage = (t : Motion) (q : Position) → t.linear < 16 → (p : Position) × IsSameVector q (image_by t p)

@@ -1,6 +1,6 @@
 //! What the numbers of linear parts stand for, and what isometries keep. These functions do nothing: each contract is a law of matrices.
 
-ghost use Rattle.isometry_map.specs.Laws.{CompositionIsProduct, ConvexImages, DirectionsGoToDirections, IsometriesAreTheirMaps, PartsDiffer, ReflectionsKeepTheirLines, SidesAreKept, TurnedReverse};
+ghost use Rattle.isometry_map.specs.Laws.{CompositionIsProduct, ConvexImages, DirectionsGoToDirections, EachIsAnImage, InsidesAreImages, IsometriesAreTheirMaps, PartsDiffer, ReflectionsKeepTheirLines, SidesAreKept, TurnedReverse};
 
 /// The composition of two linear parts stands for the product of their matrices.
 pub fn composition_is_product()
@@ -40,4 +40,14 @@ pub fn isometries_are_their_maps()
 /// The images of the corners of a convex polygon are those of one, and run the other way where orientation is reversed.
 pub fn images_are_convex()
     ensures { ConvexImages }
+{}
+
+/// A point is strictly left of all sides of a polygon exactly where its image is of those of the image.
+pub fn insides_are_images()
+    ensures { InsidesAreImages }
+{}
+
+/// Each point is the image of one.
+pub fn each_is_an_image()
+    ensures { EachIsAnImage }
 {}
