@@ -6,7 +6,7 @@ use Rattle.std.specs.Ordering.{ordering_reverse}
 use Rattle.std.specs.declared.cmp.Ordering.TheVariants.{Less, Equal, Greater}
 use Rattle.std.proofs.lemmas.Cmp.{tied_itself}
 use Rattle.std.proofs.lemmas.List.{get_or-take, length-take-le}
-use Rattle.std.proofs.lemmas.List.Elements.{All-contains}
+use Rattle.std.proofs.lemmas.List.Elements.{All-contains, All-head, All-tail}
 use Rattle.std.proofs.lemmas.Option.{get_or_from_slice_get, slice_get_within}
 use Rattle.surd_number.specs.SurdLaws.{surd_is}
 use Rattle.line_split.specs.MemberLaws.{Member, member, contained, all_member}
@@ -19,7 +19,10 @@ use Rattle.plane_geometry.specs.Polygon.{sides_of}
 use Rattle.plane_geometry.specs.Position.{position_of}
 use Rattle.isometry_map.specs.declared.folded.FoldedFace.{FoldedFace}
 use Rattle.isometry_map.specs.Folded.{FoldedView, IsImage, AreImages}
+use Rattle.isometry_map.specs.Linear.{is_reflection}
+use Rattle.isometry_map.specs.MatrixLaws.{parts_differ}
 use Rattle.isometry_map.specs.Motion.{Motion, image_by, IsSameMap, identity_motion}
+use Rattle.isometry_map.specs.MotionLaws.{matrix_same}
 use Rattle.face_builder.specs.declared.shared.SharedPiece.{SharedPiece}
 use Rattle.face_builder.specs.MapRules.{IsShared, AreFaces}
 use Rattle.face_builder.specs.View.{FaceMapView}
@@ -27,9 +30,10 @@ use Rattle.wireframe_fold.specs.declared.faults.WireFault.{WireFault}
 use Rattle.wireframe_fold.specs.declared.faults.WireFault.TheVariants.{DoesNotClose, FoldRange, TooManyLines, Memory}
 use Rattle.wireframe_fold.specs.Folding.{motion_at, mirror_in, IsClosedAt, IsFolding}
 use Rattle.wireframe_fold.specs.Lines.{IsThrough, folded_sides, HasDifferent, HasLines}
-use Rattle.wireframe_fold.specs.Shape.{HasPointOut, AreFoldedFaces}
+use Rattle.wireframe_fold.specs.Shape.{HasPointOut, IsFoldedFace, AreFoldedFaces}
 use Rattle.wireframe_fold.specs.Fold.{IsShape, HasNoFolding, IsOpenAt, IsOutAt, IsWireFault, HasMemory}
 use Rattle.wireframe_fold.specs.Laws.{MoveAlike}
+use Rattle.wireframe_fold.proofs.ConvexFaces.{IsFew}
 use Rattle.wireframe_fold.proofs.FaceLists.{folded_at}
 use Rattle.wireframe_fold.proofs.Maps.{same_vector-trans, same_vector-sym}
 use Rattle.wireframe_fold.proofs.OneFolding.{walks_alike, folding_is_one, folding_is_along_walk}
@@ -70,7 +74,7 @@ closed_alike ts us s at_a at_b h =
 
 -- ---- images by one map are the same points
 
-one_image : (t u : Motion) (p q r : Point) → IsSameMap t u → IsImage t p q → IsImage u p r → q ≡ r
+pub one_image : (t u : Motion) (p q r : Point) → IsSameMap t u → IsImage t p q → IsImage u p r → q ≡ r
 one_image t u p q r same h k =
     let x = image_by t (position_of p) in
     let y = image_by u (position_of p) in
@@ -94,27 +98,36 @@ abbrev AreAlike : List Motion → List Motion → ℕ → Type 0
 AreAlike ts us count =
     (k : ℕ) → k < count → IsSameMap (get_or ts k identity_motion) (get_or us k identity_motion)
 
-same_sides : (cs : List (List Point)) (ts us : List Motion) (fs gs : List FoldedFace)
-    → AreFoldedFaces ts cs fs → AreFoldedFaces us cs gs → AreAlike ts us (length cs)
-    → folded_sides fs ≡ folded_sides gs
-same_sides [] [] [] [] [] h k alike = refl
-same_sides [] [] [] [] (g ∷ gs) h k alike = absurd k
-same_sides [] [] [] (f ∷ fs) gs h k alike = absurd h
-same_sides [] [] (u ∷ us) [] [] h k alike = absurd k
-same_sides [] [] (u ∷ us) [] (g ∷ gs) h k alike = absurd k
-same_sides [] [] (u ∷ us) (f ∷ fs) gs h k alike = absurd h
-same_sides [] (t ∷ ts) us [] gs h k alike = absurd h
-same_sides [] (t ∷ ts) us (f ∷ fs) gs h k alike = absurd h
-same_sides (c ∷ cs) [] us [] gs h k alike = absurd h
-same_sides (c ∷ cs) [] us (f ∷ fs) gs h k alike = absurd h
-same_sides (c ∷ cs) (t ∷ ts) us [] gs h k alike = absurd h
-same_sides (c ∷ cs) (t ∷ ts) [] (f ∷ fs) [] h k alike = absurd k
-same_sides (c ∷ cs) (t ∷ ts) [] (f ∷ fs) (g ∷ gs) h k alike = absurd k
-same_sides (c ∷ cs) (t ∷ ts) (u ∷ us) (f ∷ fs) [] h k alike = absurd k
-same_sides (c ∷ cs) (t ∷ ts) (u ∷ us) (f ∷ fs) (g ∷ gs) h k alike =
-    ap₂ (λ ps sides. sides_of ps ++ sides)
-    (one_polygon t u c f.corners g.corners (alike 0 (omega arith)) h.0.images k.0.images)
-    (same_sides cs ts us fs gs h.1 k.1 (λ j few. alike (suc j) (omega arith)))
+one_face : (t u : Motion) (c : List Point) (f g : FoldedFace) → IsFew t → IsFew u → IsSameMap t u
+    → IsFoldedFace t c f → IsFoldedFace u c g → f ≡ g
+one_face t u c f g few few' same h k =
+    let corners = one_polygon t u c f.corners g.corners same h.images k.images in
+    let linear : t.linear ≡ u.linear = parts_differ t.linear u.linear few few' (matrix_same t u same) in
+    let turned : f.turned ≡ g.turned = h.turned ∙ ap is_reflection linear ∙ sym k.turned in
+    λ i. record { corners = corners i; turned = turned i }
+
+pub one_faces : (cs : List (List Point)) (ts us : List Motion) (fs gs : List FoldedFace)
+    → AreFoldedFaces ts cs fs → AreFoldedFaces us cs gs → All IsFew ts → All IsFew us
+    → AreAlike ts us (length cs) → fs ≡ gs
+one_faces [] [] [] [] [] h k few few' alike = refl
+one_faces [] [] [] [] (g ∷ gs) h k few few' alike = absurd k
+one_faces [] [] [] (f ∷ fs) gs h k few few' alike = absurd h
+one_faces [] [] (u ∷ us) [] [] h k few few' alike = absurd k
+one_faces [] [] (u ∷ us) [] (g ∷ gs) h k few few' alike = absurd k
+one_faces [] [] (u ∷ us) (f ∷ fs) gs h k few few' alike = absurd h
+one_faces [] (t ∷ ts) us [] gs h k few few' alike = absurd h
+one_faces [] (t ∷ ts) us (f ∷ fs) gs h k few few' alike = absurd h
+one_faces (c ∷ cs) [] us [] gs h k few few' alike = absurd h
+one_faces (c ∷ cs) [] us (f ∷ fs) gs h k few few' alike = absurd h
+one_faces (c ∷ cs) (t ∷ ts) us [] gs h k few few' alike = absurd h
+one_faces (c ∷ cs) (t ∷ ts) [] (f ∷ fs) [] h k few few' alike = absurd k
+one_faces (c ∷ cs) (t ∷ ts) [] (f ∷ fs) (g ∷ gs) h k few few' alike = absurd k
+one_faces (c ∷ cs) (t ∷ ts) (u ∷ us) (f ∷ fs) [] h k few few' alike = absurd k
+one_faces (c ∷ cs) (t ∷ ts) (u ∷ us) (f ∷ fs) (g ∷ gs) h k few few' alike =
+    ap₂ ◌∷◌
+    (one_face t u c f g (All-head IsFew t ts few) (All-head IsFew u us few') (alike 0 (omega arith)) h.0 k.0)
+    (one_faces cs ts us fs gs h.1 k.1 (All-tail IsFew t ts few) (All-tail IsFew u us few')
+    (λ j less. alike (suc j) (omega arith)))
 
 -- ---- so many different lines are one number
 
@@ -136,7 +149,7 @@ one_count P m n h k =
 -- ---- causes
 
 module _ (m : FaceMapView) (rules : AreFaces m) where
-  at_places : (ts us : List Motion) → MoveAlike m ts us → AreAlike ts us (length m.faces)
+  pub at_places : (ts us : List Motion) → MoveAlike m ts us → AreAlike ts us (length m.faces)
   at_places ts us alike k few =
       let place : k + 1 - 1 ≡ k = omega arith in
       let P : ℕ → Type 0 = λ j. IsSameMap (get_or ts j identity_motion) (get_or us j identity_motion) in
@@ -231,7 +244,9 @@ module _ (m : FaceMapView) (rules : AreFaces m) where
       → AreFoldedFaces ts m.faces fs → AreFoldedFaces us m.faces gs → HasLines fs i → HasLines gs j → i ≡ j
   lines_alike ts us fs gs i j first second h k few many =
       let same : folded_sides fs ≡ folded_sides gs =
-      same_sides m.faces ts us fs gs h k (at_places ts us (folding_is_one m ts us rules first second)) in
+      ap folded_sides
+      (one_faces m.faces ts us fs gs h k first.linear second.linear
+      (at_places ts us (folding_is_one m ts us rules first second))) in
       one_count (IsThrough (folded_sides gs)) i j
       (subst (λ sides. HasDifferent (IsThrough sides) i) same few) many
 
@@ -251,7 +266,7 @@ module _ (m : FaceMapView) (rules : AreFaces m) where
   one_fault (TooManyLines i) (TooManyLines j) some some' h k =
       ap TooManyLines (lines_alike h.0 k.0 h.2.faces k.2.faces i j h.1 k.1 h.2.folded k.2.folded h.2.count k.2.count)
 
-  no_fault : (f : FoldedView) (g : WireFault) → IsShape m f → IsWireFault m g → g ≢ Memory → ⊥
+  pub no_fault : (f : FoldedView) (g : WireFault) → IsShape m f → IsWireFault m g → g ≢ Memory → ⊥
   no_fault f (DoesNotClose c) h k some = open_no_folding c k h.0 h.1
   no_fault f (FoldRange face) h k some = out_unfolded face h.0 f.faces k h.1 h.2.faces
   no_fault f (TooManyLines n) h k some =

@@ -1,23 +1,27 @@
 -- The shape by the folding, or why there is none.
 use Rattle.std.specs.Prelude.{Result, Ok, Err, MatchResult, IfOk}
-use Rattle.std.proofs.Common.{◌≡◌, ◌⊎◌, inl, inr, ℕ, suc, ◌<◌, Bool, cond, List, [], ◌∷◌, length, refl, sym, ap, subst}
+use Rattle.std.proofs.Common.{◌≡◌, ℕ, suc, ◌<◌, ◌≤◌, Bool, cond, List, [], ◌∷◌, length, refl, sym, ap, subst, arith}
 use Rattle.std.specs.Bool.{IsTrue}
-use Rattle.std.specs.List.{All, AllZip}
-use Rattle.std.proofs.lemmas.List.Elements.{All-head, All-tail}
+use Rattle.std.specs.List.{All, AllByRecursion, AllZip}
+use Rattle.std.proofs.lemmas.List.Elements.{All-nil, All-cons, All-head, All-tail}
 use Rattle.surd_number.specs.Number.{opposite_sign}
 use Rattle.plane_geometry.specs.declared.Point.{Point}
 use Rattle.plane_geometry.specs.Direction.{side_of}
 use Rattle.plane_geometry.specs.Position.{Position}
+use Rattle.crease_model.specs.Rules.{most_pieces}
+use Rattle.isometry_map.specs.declared.folded.CreaseImage.{CreaseImage}
 use Rattle.isometry_map.specs.declared.folded.FoldedFace.{FoldedFace}
 use Rattle.isometry_map.specs.declared.isometries.Isometry.{Isometry}
-use Rattle.isometry_map.specs.Folded.{FoldedView, are_convex_faces}
+use Rattle.isometry_map.specs.Folded.{FoldedView, AreImages, are_convex_faces}
 use Rattle.isometry_map.specs.Motion.{Motion, side_of_images}
 use Rattle.isometry_map.specs.MotionLaws.{sides_are_kept}
 use Rattle.face_builder.specs.declared.shared.SharedPiece.{SharedPiece}
-use Rattle.face_builder.specs.MapRules.{AreFaces}
+use Rattle.face_builder.specs.MapRules.{AreFaces, most_corners}
 use Rattle.face_builder.specs.View.{FaceMapView}
 use Rattle.wireframe_fold.specs.declared.faults.WireFault.{WireFault}
 use Rattle.wireframe_fold.specs.declared.faults.WireFault.TheVariants.{DoesNotClose, FoldRange, TooManyLines, Memory}
+use Rattle.wireframe_fold.specs.Crease.{AreSharedImages}
+use Rattle.wireframe_fold.specs.Lines.{HasFewCorners}
 use Rattle.wireframe_fold.specs.Folding.{motions_of, IsClosedAt, IsFolding, AreAlongWalk}
 use Rattle.wireframe_fold.specs.Shape.{IsFoldedFace, AreFoldedFaces}
 use Rattle.wireframe_fold.specs.Fold.{IsShapeBy, HasTooManyLines, IsShapeFault, IsShape, IsWireFault, IsSideKeeping, KeepsSides}
@@ -49,11 +53,6 @@ pub shape_answer : (m : FaceMapView) (ts : List Motion) (r : Result FoldedView W
     → MatchResult r (IsShapeBy m ts) (IsShapeFault m ts) → MatchResult r (IsShape m) (IsWireFault m)
 shape_answer m ts (Ok f) folding h = (ts, folding, h)
 shape_answer m ts (Err fault) folding h = shape_fault m ts fault folding h
-
-pub too_many_answer : (m : FaceMapView) (ts : List Motion) (fault : WireFault) (n : ℕ)
-    → (fault ≡ TooManyLines n) ⊎ (fault ≡ Memory) → HasTooManyLines m ts n → IsShapeFault m ts fault
-too_many_answer m ts fault n (inl same) h = subst (IsShapeFault m ts) (sym same) h
-too_many_answer m ts fault n (inr same) h = subst (IsShapeFault m ts) (sym same) tt
 
 -- ---- sides
 
@@ -90,7 +89,7 @@ convex_shape m (Err fault) rules h = tt
 
 -- ---- how many faces
 
-folded_each : (ts : List Motion) (cs : List (List Point)) (fs : List FoldedFace) → AreFoldedFaces ts cs fs
+pub folded_each : (ts : List Motion) (cs : List (List Point)) (fs : List FoldedFace) → AreFoldedFaces ts cs fs
     → length fs ≡ length cs
 folded_each [] [] [] h = refl
 folded_each [] [] (g ∷ fs) h = absurd h
@@ -105,3 +104,38 @@ pub all_folded : (m : FaceMapView) (r : Result FoldedView WireFault) → MatchRe
     → IfOk r (λ f. length f.faces ≡ length m.faces)
 all_folded m (Ok f) h = folded_each h.0 m.faces f.faces h.2.faces
 all_folded m (Err fault) h = tt
+
+-- ---- how many creases
+
+images_count : (ts : List Motion) (shared : List SharedPiece) (cs : List CreaseImage)
+    → AreSharedImages ts shared cs → length cs ≡ length shared
+images_count ts [] [] h = refl
+images_count ts [] (c ∷ cs) h = absurd h
+images_count ts (s ∷ shared) [] h = absurd h
+images_count ts (s ∷ shared) (c ∷ cs) h = ap suc (images_count ts shared cs h.1)
+
+pub all_creases : (m : FaceMapView) (r : Result FoldedView WireFault) → AreFaces m
+    → MatchResult r (IsShape m) (IsWireFault m) → IfOk r (λ f. length f.creases ≤ most_pieces)
+all_creases m (Ok f) rules h = omega (arith, images_count h.0 m.shared f.creases h.2.creases, rules.pieces)
+all_creases m (Err fault) rules h = tt
+
+-- ---- how many corners
+
+corners_count : (t : Motion) (ps qs : List Point) → AreImages t ps qs → length qs ≡ length ps
+corners_count t [] [] h = refl
+corners_count t [] (q ∷ qs) h = absurd h
+corners_count t (p ∷ ps) [] h = absurd h
+corners_count t (p ∷ ps) (q ∷ qs) h = ap suc (corners_count t ps qs h.1)
+
+pub corners_few : (ts : List Motion) (cs : List (List Point)) (fs : List FoldedFace) → AreFoldedFaces ts cs fs
+    → AllByRecursion (λ corners. length corners ≤ most_corners) cs → All HasFewCorners fs
+corners_few [] [] [] h few = All-nil HasFewCorners
+corners_few [] [] (g ∷ fs) h few = absurd h
+corners_few [] (c ∷ cs) [] h few = absurd h
+corners_few [] (c ∷ cs) (g ∷ fs) h few = absurd h
+corners_few (u ∷ ts) [] [] h few = absurd h
+corners_few (u ∷ ts) [] (g ∷ fs) h few = absurd h
+corners_few (u ∷ ts) (c ∷ cs) [] h few = absurd h
+corners_few (u ∷ ts) (c ∷ cs) (g ∷ fs) h few =
+    All-cons HasFewCorners g fs (omega (arith, few.0, corners_count u c g.corners h.0.images))
+    (corners_few ts cs fs h.1 few.1)

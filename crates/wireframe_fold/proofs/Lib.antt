@@ -10,3 +10,5 @@ pub mod OneFolding
 pub mod ConvexFaces
 pub mod FoldedShapes
 pub mod Causes
+pub mod InnerImages
+pub mod OneShape

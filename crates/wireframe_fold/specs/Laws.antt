@@ -1,8 +1,10 @@
--- There is at most one folding, and the isometries along the walk are it.
-use Rattle.std.specs.Prelude.{ℕ, ◌≤◌, List, length}
+-- There is at most one folding, and the isometries along the walk are it; and at most one shape.
+use Rattle.std.specs.Prelude.{◌≡◌, ℕ, ◌≤◌, List, length}
+use Rattle.isometry_map.specs.Folded.{FoldedView}
 use Rattle.isometry_map.specs.Motion.{Motion, IsSameMap}
 use Rattle.face_builder.specs.MapRules.{AreFaces}
 use Rattle.face_builder.specs.View.{FaceMapView}
+use Rattle.wireframe_fold.specs.Fold.{IsShape}
 use Rattle.wireframe_fold.specs.Folding.{motion_at, AreAlongWalk, IsFolding}
 
 -- both move each face alike
@@ -18,3 +20,6 @@ abbrev pub FoldingIsAlongWalk : Type 0
 FoldingIsAlongWalk =
     (m : FaceMapView) (ts us : List Motion)
     → AreFaces m → AreAlongWalk m ts → IsFolding m us → MoveAlike m ts us
+
+abbrev pub ShapeIsOne : Type 0
+ShapeIsOne = (m : FaceMapView) (f g : FoldedView) → AreFaces m → IsShape m f → IsShape m g → f ≡ g

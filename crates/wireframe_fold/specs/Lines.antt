@@ -1,5 +1,5 @@
 -- The lines through folded sides, and how many different ones there are.
-use Rattle.std.specs.Prelude.{◌≡◌, ◌↔◌, ◌⊎◌, ℕ, ◌%◌, List, [], ◌∷◌, Some, length}
+use Rattle.std.specs.Prelude.{◌≡◌, ◌↔◌, ◌⊎◌, ℕ, ◌%◌, ◌≤◌, List, [], ◌∷◌, Some, length}
 use Rattle.std.specs.List.{Contains, flat_map}
 use Rattle.std.specs.List.Sorted.{IsStrictlySortedBy}
 use Rattle.plane_geometry.specs.declared.Line.{Line}
@@ -8,6 +8,7 @@ use Rattle.plane_geometry.specs.Order.{compare_lines}
 use Rattle.plane_geometry.specs.Polygon.{Side, side_direction, sides_of}
 use Rattle.plane_geometry.specs.Position.{position_of}
 use Rattle.isometry_map.specs.declared.folded.FoldedFace.{FoldedFace}
+use Rattle.face_builder.specs.MapRules.{most_corners}
 
 -- the line through a side: in the side's direction, through its start
 pub record IsLineThrough (s : Side) (l : Line) : Type 0 where
@@ -34,3 +35,7 @@ pub record HasDifferent (Is : Line → Type 0) (n : ℕ) : Type 0 where
 -- so many different lines pass through folded sides
 abbrev pub HasLines : List FoldedFace → ℕ → Type 0
 HasLines faces n = HasDifferent (IsThrough (folded_sides faces)) n
+
+-- no more than a face can have
+abbrev pub HasFewCorners : FoldedFace → Type 0
+HasFewCorners f = length f.corners ≤ most_corners

@@ -2,10 +2,12 @@
 //! that it shares.
 #![tactic(auto)]
 
-ghost use Rattle.std.specs.Prelude.{◌≡◌, ◌↔◌, ◌⊎◌, ◌^◌, ℕ, length, MatchResult, IfOk, IsErrOf, IsTrue};
-ghost use Rattle.isometry_map.specs.Folded.{are_convex_faces};
+ghost use Rattle.std.specs.Prelude.{◌≡◌, ◌↔◌, ◌^◌, ◌≤◌, ℕ, length, Ok, MatchResult, IfOk, IsErrOf, IsTrue};
+ghost use Rattle.crease_model.specs.Rules.{most_pieces};
+ghost use Rattle.isometry_map.specs.Folded.{FoldedView, are_convex_faces};
 ghost use Rattle.wireframe_fold.specs.Folding.{motions_of, AreWithin, IsFolding};
 ghost use Rattle.wireframe_fold.specs.Fold.{IsShapeBy, IsShapeFault, IsShape, IsWireFault, HasMemory, HasNoFolding, IsOpenAt, IsOutAt, AreTooManyLines, KeepsSides};
+ghost use Rattle.wireframe_fold.specs.Inside.{KeepsInsides};
 ghost use Rattle.wireframe_fold.specs.declared.faults.WireFault.TheVariants.{DoesNotClose, FoldRange, TooManyLines};
 
 mod creases;
@@ -16,6 +18,7 @@ mod motions;
 mod shapes;
 
 use crate::creases::shared_images;
+use crate::laws::inside_is_image;
 use crate::lines::count_lines;
 use crate::motions::{along_walk, first_open, tell_places};
 use crate::shapes::folded_faces;
@@ -26,16 +29,6 @@ use std::alloc::Global;
 
 /// The most lines through folded sides.
 pub const MOST_LINES: usize = 200;
-
-// So many lines; a number of more than 32 bits counts as want of memory.
-fn too_many_lines(lines: usize) -> WireFault
-    ensures { (result ≡ WireFault.TooManyLines lines) ⊎ (result ≡ WireFault.Memory) }
-{
-    match u32::try_from(lines) {
-        Ok(lines) => WireFault::TooManyLines { lines },
-        Err(_) => WireFault::Memory,
-    }
-}
 
 // The shape by the isometries of the folding.
 fn shape_by(alloc: Global, faces: &FaceMap, motions: &[Isometry]) -> Result<Folded, WireFault>
@@ -48,7 +41,9 @@ fn shape_by(alloc: Global, faces: &FaceMap, motions: &[Isometry]) -> Result<Fold
     let folded = folded_faces(alloc, faces, motions)?;
     let lines = count_lines(alloc, folded.as_slice())?;
     if lines > MOST_LINES {
-        return Err(too_many_lines(lines));
+        return Err(WireFault::TooManyLines {
+            lines: lines as u32,
+        });
     }
     let creases = shared_images(alloc, motions, faces.shared())?;
     Ok(Folded::new(folded, creases))
@@ -77,11 +72,15 @@ pub fn fold(alloc: Global, faces: &FaceMap) -> Result<Folded, WireFault>
         ↔ (HasMemory result × IsOutAt faces.now face) }
     ensures too_many_lines { (lines : ℕ) → IsErrOf result (TooManyLines lines)
         ↔ (HasMemory result × AreTooManyLines faces.now lines) }
+    ensures shape { (f : FoldedView) → (result ≡ Ok f) ↔ (HasMemory result × IsShape faces.now f) }
+    ensures inside { IfOk result (KeepsInsides faces.now) }
     ensures count { IfOk result (λ f. length f.faces ≡ length faces.now.faces) }
+    ensures creases { IfOk result (λ f. length f.creases ≤ most_pieces) }
     ensures convex { IfOk result (λ f. IsTrue (are_convex_faces f.faces)) }
     ensures sides { IfOk result (KeepsSides faces.now) }
     ensures exact { MatchResult result (IsShape faces.now) (IsWireFault faces.now) }
 {
     tell_places(faces);
+    inside_is_image();
     fold_of(alloc, faces)
 }

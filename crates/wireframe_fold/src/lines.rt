@@ -1,12 +1,13 @@
 //! The lines through folded sides.
 
-ghost use Rattle.std.specs.Prelude.{◌↔◌, ◌⊎◌, IfOk, OnOk};
-ghost use Rattle.std.specs.List.{Contains};
+ghost use Rattle.std.specs.Prelude.{◌↔◌, ◌⊎◌, ◌+◌, ◌*◌, ◌≤◌, length, IfOk, OnOk};
+ghost use Rattle.std.specs.List.{All, Contains};
 ghost use Rattle.std.specs.List.Sorted.{IsPermutation, IsSorted};
 ghost use Rattle.plane_geometry.specs.declared.Line.{Line};
 ghost use Rattle.plane_geometry.specs.Order.{compare_lines};
 ghost use Rattle.plane_geometry.specs.Polygon.{sides_of};
-ghost use Rattle.wireframe_fold.specs.Lines.{IsLineThrough, IsThrough, HasDifferent, HasLines};
+ghost use Rattle.face_builder.specs.MapRules.{most_corners};
+ghost use Rattle.wireframe_fold.specs.Lines.{IsLineThrough, IsThrough, HasDifferent, HasFewCorners, HasLines};
 
 use isometry_map::FoldedFace;
 use plane_geometry::{Line, Point, direction, next_corner};
@@ -14,8 +15,9 @@ use std::alloc::{AllocError, Global};
 
 /// Appends the line through a side, if the side has a direction.
 fn push_line(lines: &mut Vec<Line>, start: &Point, end: &Point) -> Result<(), AllocError>
-    ensures { OnOk result ((l : Line) → Contains lines.new.items l
+    ensures lines { OnOk result ((l : Line) → Contains lines.new.items l
         ↔ (Contains lines.old.items l ⊎ IsLineThrough (record { start = start.now; end = end.now }) l)) }
+    ensures few { OnOk result (length lines.new.items ≤ length lines.old.items + 1) }
 {
     match direction(start, end) {
         Some(dir) => {
@@ -28,8 +30,9 @@ fn push_line(lines: &mut Vec<Line>, start: &Point, end: &Point) -> Result<(), Al
 
 /// Appends the lines through the sides of a polygon.
 fn push_lines(lines: &mut Vec<Line>, corners: &[Point]) -> Result<(), AllocError>
-    ensures { OnOk result ((l : Line) → Contains lines.new.items l
+    ensures lines { OnOk result ((l : Line) → Contains lines.new.items l
         ↔ (Contains lines.old.items l ⊎ IsThrough (sides_of corners.now) l)) }
+    ensures few { OnOk result (length lines.new.items ≤ length lines.old.items + length corners.now) }
 {
     for (i, start) in corners.iter().enumerate() {
         push_line(lines, start, next_corner(corners, i))?;
@@ -48,7 +51,8 @@ fn sorted(mut lines: Vec<Line>) -> Vec<Line>
 
 /// How many different lines there are.
 fn count_different(lines: Vec<Line>) -> usize
-    ensures { HasDifferent (Contains lines.items) result }
+    ensures different { HasDifferent (Contains lines.items) result }
+    ensures few { result ≤ length lines.items }
 {
     let mut lines = sorted(lines);
     lines.dedup();
@@ -57,7 +61,9 @@ fn count_different(lines: Vec<Line>) -> usize
 
 /// How many different lines pass through folded sides.
 pub fn count_lines(alloc: Global, faces: &[FoldedFace]) -> Result<usize, AllocError>
-    ensures { IfOk result (λ n. HasLines faces.now n) }
+    requires { All HasFewCorners faces.now }
+    ensures count { IfOk result (λ n. HasLines faces.now n) }
+    ensures few { IfOk result (λ n. n ≤ length faces.now * most_corners) }
 {
     let mut lines = Vec::new(alloc);
     for face in faces {

@@ -1,6 +1,8 @@
 use Rattle.wireframe_fold.specs.declared.faults.WireFault.TheVariants.{DoesNotClose, FoldRange, TooManyLines}
 use Rattle.wireframe_fold.proofs.Causes.{refused_exactly, unfolded_exactly, open_not_memory, range_not_memory, lines_not_memory}
-use Rattle.wireframe_fold.proofs.FoldedShapes.{sides_kept, convex_shape, all_folded}
+use Rattle.wireframe_fold.proofs.FoldedShapes.{sides_kept, convex_shape, all_folded, all_creases}
+use Rattle.wireframe_fold.proofs.InnerImages.{insides_kept}
+use Rattle.wireframe_fold.proofs.OneShape.{made_exactly}
 use Rattle.wireframe_fold.proofs.fold.Goals as goal
 
 pub returns-clause-does_not_close : goal.returns-clause-does_not_close
@@ -31,3 +33,16 @@ returns-clause-sides c = sides_kept c.args.faces.now c.fold_of.result c.fold_of.
 
 pub returns-clause-count : goal.returns-clause-count
 returns-clause-count c = all_folded c.args.faces.now c.fold_of.result c.fold_of.ensures
+
+pub returns-clause-shape : goal.returns-clause-shape
+returns-clause-shape c = λ f.
+    made_exactly c.args.faces.now c.tell_places.ensures.rules c.fold_of.result c.fold_of.ensures f
+
+pub returns-clause-inside : goal.returns-clause-inside
+returns-clause-inside c =
+    insides_kept c.inside_is_image.ensures c.args.faces.now c.fold_of.result c.tell_places.ensures.rules
+    c.fold_of.ensures
+
+pub returns-clause-creases : goal.returns-clause-creases
+returns-clause-creases c =
+    all_creases c.args.faces.now c.fold_of.result c.tell_places.ensures.rules c.fold_of.ensures

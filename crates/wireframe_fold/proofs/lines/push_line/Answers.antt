@@ -5,8 +5,8 @@ use Rattle.plane_geometry.specs.Polygon.{Side}
 use Rattle.wireframe_fold.proofs.SideLines.{line_appended, line_through}
 use Rattle.wireframe_fold.proofs.lines.push_line.Goals as goal
 
-pub returns-in_ok-push-in-Some : goal.returns-in_ok-push-in-Some
-returns-in_ok-push-in-Some c =
+pub returns-in_ok-push-in-Some-clause-lines : goal.returns-in_ok-push-in-Some-clause-lines
+returns-in_ok-push-in-Some-clause-lines c =
     let p = c.args.start.now in
     let q = c.args.end.now in
     let s : Side = record { start = p; end = q } in
