@@ -1,10 +1,9 @@
 -- What a face has left of a line, by its region.
 use Rattle.std.proofs.Common.{◌≡◌, ℕ, zero, suc, ◌-◌, ◌<◌, ◌≤◌, Bool, true, false, not, List, [], ◌∷◌, length, Option, None, refl, subst, arith}
-use Rattle.std.specs.Prelude.{◌↔◌, slice_index_or}
+use Rattle.std.specs.Prelude.{◌↔◌}
 use Rattle.std.specs.Bool.{IsTrue}
 use Rattle.std.specs.List.{slice_get}
 use Rattle.std.specs.Option.{IsSomeAnd}
-use Rattle.std.proofs.lemmas.Slice.Zip.{AllZip-long}
 use Rattle.plane_geometry.specs.declared.Point.{Point}
 use Rattle.plane_geometry.specs.Position.{Position, position_of}
 use Rattle.open_region.specs.declared.Region.{Region}
@@ -13,9 +12,7 @@ use Rattle.isometry_map.specs.declared.folded.CreaseImage.{CreaseImage}
 use Rattle.isometry_map.specs.declared.folded.FoldedFace.{FoldedFace}
 use Rattle.isometry_map.specs.Folded.{FoldedView}
 use Rattle.layer_rules.specs.Faces.{is_inside_face, IsInside}
-use Rattle.layer_rules.specs.Insides.{IsInsideOf, AreInsides}
 use Rattle.layer_rules.specs.TacoTaco.{HasNothingLeftOf, HaveNothingLeftOf}
-use Rattle.layer_rules.proofs.InsideRegions.{inside_at}
 
 module _ {X : Type 0} where
   get_beyond : (xs : List X) (n : ℕ) → length xs ≤ n → slice_get xs n ≡ None
@@ -28,26 +25,22 @@ not_when true never = absurd (never refl)
 not_when false never = refl
 
 -- a number that no face has
-pub not_inside : (shape : FoldedView) (insides : List Region) (f : ℕ) (p : Position) → AreInsides shape.faces insides
-    → length insides < f → IsInside shape f p → ⊥
-not_inside shape insides zero p h beyond inside = inside
-not_inside shape insides (suc n) p h beyond inside =
-    let long = AllZip-long IsInsideOf shape.faces insides h in
+pub not_inside : (shape : FoldedView) (f : ℕ) (p : Position) → length shape.faces < f → IsInside shape f p → ⊥
+not_inside shape zero p beyond inside = inside
+not_inside shape (suc n) p beyond inside =
     subst (λ (o : Option FoldedFace). IsSomeAnd o (λ face. IsTrue (is_inside_face p face)))
-    (get_beyond shape.faces n (omega (arith, long, beyond))) inside
+    (get_beyond shape.faces n (omega (arith, beyond))) inside
 
-pub none_left : (shape : FoldedView) (f : ℕ) (q : Position) (n : ℕ) (region cut : Region) (insides : List Region)
-    → AreInsides shape.faces insides → 1 ≤ f → f ≤ length insides
-    → region ≡ slice_index_or insides (f - 1) region
+pub none_left : (shape : FoldedView) (f : ℕ) (q : Position) (n : ℕ) (region cut : Region)
+    → ((p : Position) → IsInRegion p region ↔ IsInside shape f p)
     → ((p : Position) → IsInRegion p cut ↔ (IsInRegion p region × IsLeftOf p q n))
     → (¬ HasPoint cut) ↔ HasNothingLeftOf shape q n f
-none_left shape f q n region cut insides h first last e left =
-    let same = inside_at shape insides f region h first last e in (
-      λ none p inside side. none (p, (left p).1 ((same p).1 inside, side)),
-      λ nothing some.
-          let both = (left some.0).0 some.1 in
-          nothing some.0 ((same some.0).0 both.0) both.1,
-    )
+none_left shape f q n region cut same left = (
+  λ none p inside side. none (p, (left p).1 ((same p).1 inside, side)),
+  λ nothing some.
+      let both = (left some.0).0 some.1 in
+      nothing some.0 ((same some.0).0 both.0) both.1,
+)
 
 -- the same at equal points and directions
 pub both_at : (shape : FoldedView) (c d : CreaseImage) (p q : Point) (m n : ℕ) → p ≡ q → m ≡ n

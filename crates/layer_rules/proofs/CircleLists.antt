@@ -1,14 +1,14 @@
 -- Lists of circles as they grow.
-use Rattle.std.proofs.Common.{◌≡◌, ℕ, zero, suc, ◌+◌, ◌-◌, ◌<◌, ◌≤◌, inl, inr, List, [], ◌∷◌, ◌++◌, length, Some, refl, sym, ap, subst, ◌∙◌, arith}
+use Rattle.std.proofs.Common.{◌≡◌, ℕ, zero, suc, ◌+◌, ◌-◌, ◌*◌, ◌<◌, ◌≤◌, inl, inr, List, [], ◌∷◌, ◌++◌, length, Some, refl, sym, ap, subst, ◌∙◌, arith}
 use Rattle.std.specs.List.{All, AllPairs, Contains, slice_get, slice_index_or}
 use Rattle.std.proofs.lemmas.Bool.{cases_lt}
+use Rattle.std.proofs.lemmas.List.{length-append}
 use Rattle.std.proofs.lemmas.List.Elements.{All-nil, All-push, All-weaker, Contains-append_left, Contains-push}
 use Rattle.std.proofs.lemmas.List.Quantifiers.{all_pairs_push}
-use Rattle.open_region.specs.declared.Region.{Region}
+use Rattle.isometry_map.specs.Folded.{FoldedView}
 use Rattle.sign_rules.specs.declared.rule.Rule.{Rule}
 use Rattle.sign_rules.specs.declared.rule.Rule.TheVariants.{NotCyclic}
 use Rattle.layer_rules.specs.declared.face_pairs.FacePair.{FacePair}
-use Rattle.layer_rules.specs.Faces.{numbered}
 use Rattle.layer_rules.specs.FacePairs.{Precedes}
 use Rattle.layer_rules.specs.Circles.{IsCircle, IsCircleRule, first_place, third_place, ArePlacedBefore, StandsBefore, AreCirclesBefore}
 use Rattle.layer_rules.proofs.SignPlaces.{pair_of, some_is, get_below, get_reads}
@@ -20,20 +20,6 @@ module _ {X : Type 0} where
       let read : R (slice_index_or xs m x) (slice_index_or xs n x) = up m n x less (get_below xs n y f) in
       subst (λ (t : X). R x t) (get_reads xs n y x f)
       (subst (λ (t : X). R t (slice_index_or xs n x)) (get_reads xs m x x e) read)
-
-  -- the element at a place, counted from 1
-  pub numbered_at : (xs : List X) (f : ℕ) (x : X) → 1 ≤ f → f ≤ length xs → x ≡ slice_index_or xs (f - 1) x
-      → numbered xs f ≡ Some x
-  numbered_at xs zero x first last e = absurd (omega arith)
-  numbered_at xs (suc n) x first last e =
-      let one_less : suc n - 1 ≡ n = omega arith in
-      read xs n x (omega arith) (subst (λ (k : ℕ). x ≡ slice_index_or xs k x) one_less e)
-    where
-      read : (ys : List X) (n : ℕ) (x : X) → n < length ys → x ≡ slice_index_or ys n x
-          → slice_get ys n ≡ Some x
-      read [] n x below e = absurd (omega arith)
-      read (y ∷ ys) zero x below e = ap Some (sym e)
-      read (y ∷ ys) (suc n) x below e = read ys n x (omega arith) e
 
 pub one_place : (pairs : List FacePair) (m n : ℕ) (pair : FacePair) → AllPairs Precedes pairs
     → slice_get pairs m ≡ Some pair → slice_get pairs n ≡ Some pair → m ≡ n
@@ -61,8 +47,8 @@ get_is : (pairs : List FacePair) (n : ℕ) (p q : FacePair) → slice_get pairs 
     → p ≡ q
 get_is pairs n p q e f = some_is p q (sym e ∙ f)
 
-module _ (insides : List Region) (pairs : List FacePair) (up : AllPairs Precedes pairs) where
-  pub third_later : (ij jk ik : ℕ) → IsCircle insides pairs ij jk ik → ij < ik
+module _ (shape : FoldedView) (pairs : List FacePair) (up : AllPairs Precedes pairs) where
+  pub third_later : (ij jk ik : ℕ) → IsCircle shape pairs ij jk ik → ij < ik
   third_later ij jk ik c =
       elim (cases_lt ij ik) [
         | inl less ↦ less
@@ -95,7 +81,7 @@ module _ (insides : List Region) (pairs : List FacePair) (up : AllPairs Precedes
     pub third_first : i ≡ other.i
     pub third : k ≡ other.j
 
-  pub circle_faces : (ij jk ik : ℕ) (pair other : FacePair) (c : IsCircle insides pairs ij jk ik)
+  pub circle_faces : (ij jk ik : ℕ) (pair other : FacePair) (c : IsCircle shape pairs ij jk ik)
       → slice_get pairs ij ≡ Some pair → slice_get pairs ik ≡ Some other → HasFaces pair other c.i c.j c.k
   circle_faces ij jk ik pair other c e f =
       let one = get_is pairs ij (pair_of c.i c.j) pair c.first e in
@@ -107,17 +93,19 @@ module _ (insides : List Region) (pairs : List FacePair) (up : AllPairs Precedes
         third = same_second_face (pair_of c.i c.k) other two;
       }
 
-  pub no_circles : AreCirclesBefore insides pairs 0 0 []
+  pub no_circles : AreCirclesBefore shape pairs 0 0 []
   no_circles = record {
+    few = omega arith;
     ascending = λ i j d less below. absurd (omega arith);
     below = All-nil _;
     sound = All-nil _;
     complete = λ ij jk ik c before. absurd (elim before [ inl less ↦ omega arith | inr same ↦ omega arith ]);
   }
 
-  pub circles_begin : (p : ℕ) (rules : List Rule) → AreCirclesBefore insides pairs p 0 rules
-      → AreCirclesBefore insides pairs p (p + 1) rules
+  pub circles_begin : (p : ℕ) (rules : List Rule) → AreCirclesBefore shape pairs p 0 rules
+      → AreCirclesBefore shape pairs p (p + 1) rules
   circles_begin p rules h = record {
+    few = omega (arith, h.few);
     ascending = h.ascending;
     below = All-weaker (λ r. ArePlacedBefore (first_place r) (third_place r) p 0)
         (λ r. ArePlacedBefore (first_place r) (third_place r) p (p + 1))
@@ -131,10 +119,11 @@ module _ (insides : List Region) (pairs : List FacePair) (up : AllPairs Precedes
         ]);
   }
 
-  row_done : (p t : ℕ) (rules : List Rule)
-      → ((ij jk ik : ℕ) → IsCircle insides pairs ij jk ik → ij ≡ p → ik < t)
-      → AreCirclesBefore insides pairs p t rules → AreCirclesBefore insides pairs (p + 1) 0 rules
-  row_done p t rules last h = record {
+  row_done : (p t : ℕ) (rules : List Rule) → t ≤ length pairs
+      → ((ij jk ik : ℕ) → IsCircle shape pairs ij jk ik → ij ≡ p → ik < t)
+      → AreCirclesBefore shape pairs p t rules → AreCirclesBefore shape pairs (p + 1) 0 rules
+  row_done p t rules within last h = record {
+    few = omega (arith, h.few, within);
     ascending = h.ascending;
     below = All-weaker (λ r. ArePlacedBefore (first_place r) (third_place r) p t)
         (λ r. ArePlacedBefore (first_place r) (third_place r) (p + 1) 0)
@@ -153,20 +142,20 @@ module _ (insides : List Region) (pairs : List FacePair) (up : AllPairs Precedes
         ]);
   }
 
-  pub circles_end : (p t : ℕ) (rules : List Rule) → length pairs ≤ t
-      → AreCirclesBefore insides pairs p t rules
-      → AreCirclesBefore insides pairs (p + 1) 0 rules
+  pub circles_end : (p t : ℕ) (rules : List Rule) → t ≡ length pairs
+      → AreCirclesBefore shape pairs p t rules
+      → AreCirclesBefore shape pairs (p + 1) 0 rules
   circles_end p t rules all h =
-      row_done p t rules
+      row_done p t rules (omega (arith, all))
       (λ ij jk ik c at. omega (arith, all, get_below pairs ik (pair_of c.i c.k) c.third)) h
 
   -- from a pair with another first face on, there are no pairs with this one
   pub circles_stop : (p t : ℕ) (pair other : FacePair) (rules : List Rule) → p < t
       → slice_get pairs p ≡ Some pair
-      → slice_get pairs t ≡ Some other → (other.i ≡ pair.i → ⊥) → AreCirclesBefore insides pairs p t rules
-      → AreCirclesBefore insides pairs (p + 1) 0 rules
+      → slice_get pairs t ≡ Some other → (other.i ≡ pair.i → ⊥) → AreCirclesBefore shape pairs p t rules
+      → AreCirclesBefore shape pairs (p + 1) 0 rules
   circles_stop p t pair other rules less e f differ h =
-      row_done p t rules
+      row_done p t rules (omega (arith, get_below pairs t other f))
       (λ ij jk ik c at.
       let here : slice_get pairs ij ≡ Some pair = ap (slice_get pairs) at ∙ e in
       let one = get_is pairs ij (pair_of c.i c.j) pair c.first here in
@@ -194,9 +183,10 @@ module _ (insides : List Region) (pairs : List FacePair) (up : AllPairs Precedes
       ]) h
 
   -- where no circle has its first and third pair in these places
-  pub circle_skip : (p t : ℕ) (rules : List Rule) → ((jk : ℕ) → IsCircle insides pairs p jk t → ⊥)
-      → AreCirclesBefore insides pairs p t rules → AreCirclesBefore insides pairs p (t + 1) rules
+  pub circle_skip : (p t : ℕ) (rules : List Rule) → ((jk : ℕ) → IsCircle shape pairs p jk t → ⊥)
+      → AreCirclesBefore shape pairs p t rules → AreCirclesBefore shape pairs p (t + 1) rules
   circle_skip p t rules not_here h = record {
+    few = omega (arith, h.few);
     ascending = h.ascending;
     below = later_below p t rules h.below;
     sound = h.sound;
@@ -211,8 +201,8 @@ module _ (insides : List Region) (pairs : List FacePair) (up : AllPairs Precedes
                     (let at : ik ≡ t = omega (arith, more, same.1) in
                     absurd
                     (not_here jk
-                    (subst (λ (n : ℕ). IsCircle insides pairs n jk t) same.0
-                    (subst (λ (n : ℕ). IsCircle insides pairs ij jk n) at c))))
+                    (subst (λ (n : ℕ). IsCircle shape pairs n jk t) same.0
+                    (subst (λ (n : ℕ). IsCircle shape pairs ij jk n) at c))))
               ]
         ]);
   }
@@ -225,7 +215,7 @@ module _ (insides : List Region) (pairs : List FacePair) (up : AllPairs Precedes
           (λ r. ArePlacedBefore (first_place r) (third_place r) p (t + 1))
           (λ r before. elim before [ inl less ↦ inl less | inr same ↦ inr (same.0, omega (arith, same.1)) ]) rules h
 
-  same_middle : (p q q' t : ℕ) → IsCircle insides pairs p q t → IsCircle insides pairs p q' t → q' ≡ q
+  same_middle : (p q q' t : ℕ) → IsCircle shape pairs p q t → IsCircle shape pairs p q' t → q' ≡ q
   same_middle p q q' t c d =
       let one = get_is pairs p (pair_of d.i d.j) (pair_of c.i c.j) d.first c.first in
       let two = get_is pairs t (pair_of d.i d.k) (pair_of c.i c.k) d.third c.third in
@@ -233,17 +223,18 @@ module _ (insides : List Region) (pairs : List FacePair) (up : AllPairs Precedes
       let k = same_second_face (pair_of d.i d.k) (pair_of c.i c.k) two in
       one_place pairs q' q (pair_of c.j c.k) up (d.second ∙ (λ i. Some (pair_of (j i) (k i)))) c.second
 
-  pub circle_push : (p q t : ℕ) (rules : List Rule) → IsCircle insides pairs p q t
-      → AreCirclesBefore insides pairs p t rules
-      → AreCirclesBefore insides pairs p (t + 1) (rules ++ NotCyclic p q t ∷ [])
+  pub circle_push : (p q t : ℕ) (rules : List Rule) → IsCircle shape pairs p q t
+      → AreCirclesBefore shape pairs p t rules
+      → AreCirclesBefore shape pairs p (t + 1) (rules ++ NotCyclic p q t ∷ [])
   circle_push p q t rules here h = record {
+    few = omega (arith, h.few, length-append rules (NotCyclic p q t ∷ []));
     ascending = all_pairs_push StandsBefore rules (NotCyclic p q t) h.ascending (λ k d below. h.below k d below);
     below = All-push (λ r. ArePlacedBefore (first_place r) (third_place r) p (t + 1)) rules (NotCyclic p q t)
         (All-weaker (λ r. ArePlacedBefore (first_place r) (third_place r) p t)
         (λ r. ArePlacedBefore (first_place r) (third_place r) p (t + 1))
         (λ r before. elim before [ inl less ↦ inl less | inr same ↦ inr (same.0, omega (arith, same.1)) ]) rules h.below)
         (inr (refl, omega arith));
-    sound = All-push (IsCircleRule insides pairs) rules (NotCyclic p q t) h.sound
+    sound = All-push (IsCircleRule shape pairs) rules (NotCyclic p q t) h.sound
         (record { ij = p; jk = q; ik = t; is = refl; circle = here });
     complete = λ ij jk ik c before.
         elim before [
@@ -258,8 +249,8 @@ module _ (insides : List Region) (pairs : List FacePair) (up : AllPairs Precedes
                     (let at : ik ≡ t = omega (arith, more, same.1) in
                     let middle : jk ≡ q =
                     same_middle p q jk t here
-                    (subst (λ (n : ℕ). IsCircle insides pairs n jk t) same.0
-                    (subst (λ (n : ℕ). IsCircle insides pairs ij jk n) at c)) in
+                    (subst (λ (n : ℕ). IsCircle shape pairs n jk t) same.0
+                    (subst (λ (n : ℕ). IsCircle shape pairs ij jk n) at c)) in
                     let one : NotCyclic p q t ≡ NotCyclic ij jk ik =
                     sym (λ i. NotCyclic (same.0 i) (middle i) (at i)) in
                     subst (λ (r : Rule). Contains (rules ++ NotCyclic p q t ∷ []) r) one

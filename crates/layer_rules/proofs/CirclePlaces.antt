@@ -2,53 +2,45 @@
 use Rattle.std.proofs.Common.{◌≡◌, ℕ, ◌<◌, ◌≤◌, inl, inr, List, Option, Some, sym, ap, subst, ◌∙◌, arith}
 use Rattle.std.specs.Prelude.{◌↔◌}
 use Rattle.std.specs.List.{AllPairs, Contains, slice_get}
-use Rattle.std.specs.Option.{IsSomeAnd}
 use Rattle.plane_geometry.specs.Position.{Position}
 use Rattle.open_region.specs.declared.Region.{Region}
 use Rattle.open_region.specs.Region.{IsInRegion}
+use Rattle.isometry_map.specs.Folded.{FoldedView}
 use Rattle.layer_rules.specs.declared.face_pairs.FacePair.{FacePair}
-use Rattle.layer_rules.specs.Faces.{numbered}
+use Rattle.layer_rules.specs.Faces.{IsInside}
 use Rattle.layer_rules.specs.FacePairs.{Precedes}
-use Rattle.layer_rules.specs.Circles.{IsInNumbered, IsCommon, AreOrdered, IsCircle}
+use Rattle.layer_rules.specs.Circles.{IsCommon, AreOrdered, IsCircle}
 use Rattle.layer_rules.proofs.SignPlaces.{pair_of, get_contains, get_below, get_reads}
 use Rattle.layer_rules.proofs.CircleLists.{get_ordered, circle_faces}
 
-pub in_at : (insides : List Region) (f : ℕ) (region : Region) → numbered insides f ≡ Some region
-    → (p : Position)
-    → IsInRegion p region ↔ IsInNumbered insides f p
-in_at insides f region e p = (
-  λ h. subst (λ (o : Option Region). IsSomeAnd o (IsInRegion p)) (sym e) h,
-  λ h. subst (λ (o : Option Region). IsSomeAnd o (IsInRegion p)) e h,
-)
-
-module _ (insides : List Region) (pairs : List FacePair) (up : AllPairs Precedes pairs) (p t : ℕ) (pair other : FacePair) (e : slice_get pairs p ≡ Some pair) (f : slice_get pairs t ≡ Some other) where
-  pub no_middle : (Contains pairs (pair_of pair.j other.j) → ⊥) → (jk : ℕ) → IsCircle insides pairs p jk t → ⊥
+module _ (shape : FoldedView) (pairs : List FacePair) (up : AllPairs Precedes pairs) (p t : ℕ) (pair other : FacePair) (e : slice_get pairs p ≡ Some pair) (f : slice_get pairs t ≡ Some other) where
+  pub no_middle : (Contains pairs (pair_of pair.j other.j) → ⊥) → (jk : ℕ) → IsCircle shape pairs p jk t → ⊥
   no_middle not_there jk c =
-      let faces = circle_faces insides pairs up p jk t pair other c e f in
+      let faces = circle_faces shape pairs up p jk t pair other c e f in
       not_there
       (subst (λ (q : FacePair). Contains pairs q) (λ i. pair_of (faces.second i) (faces.third i))
       (get_contains pairs jk (pair_of c.j c.k) c.second))
 
-  pub no_point : (common region : Region) → IsCommon insides pair common
-      → numbered insides other.j ≡ Some region
+  pub no_point : (common region : Region) → IsCommon shape pair common
+      → ((q : Position) → IsInRegion q region ↔ IsInside shape other.j q)
       → ((q : Position) × IsInRegion q common × IsInRegion q region → ⊥) → (jk : ℕ)
-      → IsCircle insides pairs p jk t → ⊥
+      → IsCircle shape pairs p jk t → ⊥
   no_point common region both at apart jk c =
-      let faces = circle_faces insides pairs up p jk t pair other c e f in
+      let faces = circle_faces shape pairs up p jk t pair other c e f in
       let q = c.point in
       apart (
         q,
         (both q).1 (
-          subst (λ (n : ℕ). IsInNumbered insides n q) faces.first c.in_first,
-          subst (λ (n : ℕ). IsInNumbered insides n q) faces.second c.in_second,
+          subst (λ (n : ℕ). IsInside shape n q) faces.first c.in_first,
+          subst (λ (n : ℕ). IsInside shape n q) faces.second c.in_second,
         ),
-        (in_at insides other.j region at q).1 (subst (λ (n : ℕ). IsInNumbered insides n q) faces.third c.in_third),
+        (at q).1 (subst (λ (n : ℕ). IsInside shape n q) faces.third c.in_third),
       )
 
-  pub one_circle : (common region : Region) (m : ℕ) → IsCommon insides pair common
-      → numbered insides other.j ≡ Some region → ((q : Position) × IsInRegion q common × IsInRegion q region)
+  pub one_circle : (common region : Region) (m : ℕ) → IsCommon shape pair common
+      → ((q : Position) → IsInRegion q region ↔ IsInside shape other.j q) → ((q : Position) × IsInRegion q common × IsInRegion q region)
       → p < t → other.i ≡ pair.i → pair.i < pair.j → slice_get pairs m ≡ Some (pair_of pair.j other.j)
-      → IsCircle insides pairs p m t
+      → IsCircle shape pairs p m t
   one_circle common region m both at point later same lower middle =
       let halves = (both point.0).0 point.1 in
       let higher : pair.j < other.j =
@@ -68,7 +60,7 @@ module _ (insides : List Region) (pairs : List FacePair) (up : AllPairs Precedes
         point = point.0;
         in_first = halves.0;
         in_second = halves.1;
-        in_third = (in_at insides other.j region at point.0).0 point.2;
+        in_third = (at point.0).0 point.2;
       }
 
 abbrev pub InRange : ℕ → FacePair → Type 0

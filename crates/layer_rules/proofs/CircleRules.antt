@@ -3,13 +3,8 @@ use Rattle.std.proofs.Common.{◌≡◌, ℕ, zero, suc, ◌<◌, inl, inr, Bool
 use Rattle.std.specs.Prelude.{◌↔◌, ◌&&◌, ◌||◌, nat_lt, slice_index_or}
 use Rattle.std.specs.Bool.{IsTrue}
 use Rattle.std.specs.List.{All, AllPairs, list_any, list_all, slice_get}
-use Rattle.std.specs.Option.{IsSomeAnd}
 use Rattle.std.proofs.lemmas.Bool.{and_parts, and_from, false≢true, ltb-true, lt-ltb, ne_eqb}
 use Rattle.std.proofs.lemmas.List.Elements.{All-contains, All-head, All-tail, Contains-get_or}
-use Rattle.plane_geometry.specs.Position.{Position}
-use Rattle.open_region.specs.declared.Region.{Region}
-use Rattle.open_region.specs.Region.{IsInRegion}
-use Rattle.isometry_map.specs.declared.folded.FoldedFace.{FoldedFace}
 use Rattle.isometry_map.specs.Folded.{FoldedView}
 use Rattle.sign_rules.specs.declared.sign.Sign.{Sign}
 use Rattle.sign_rules.specs.declared.sign.Sign.TheVariants.{Under}
@@ -19,33 +14,13 @@ use Rattle.sign_rules.specs.Signs.{is_over, over_at}
 use Rattle.sign_rules.specs.Rule.{is_rule_on, is_met, are_different}
 use Rattle.sign_rules.specs.Rules.{are_rules_on, is_decided, is_broken}
 use Rattle.layer_rules.specs.declared.face_pairs.FacePair.{FacePair}
-use Rattle.layer_rules.specs.Faces.{is_inside_face, IsInside}
 use Rattle.layer_rules.specs.FacePairs.{Precedes, IsPairList}
-use Rattle.layer_rules.specs.Insides.{AreInsides}
 use Rattle.layer_rules.specs.Transitivity.{IsTriple, BreaksTransitivity}
 use Rattle.layer_rules.specs.RuleLists.{AreDifferent}
-use Rattle.layer_rules.specs.Circles.{IsInNumbered, AreOrdered, IsCircle, IsCircleRule, StandsBefore, AreCirclesBefore}
+use Rattle.layer_rules.specs.Circles.{AreOrdered, IsCircle, IsCircleRule, StandsBefore, AreCirclesBefore}
 use Rattle.layer_rules.proofs.SignPlaces.{pair_of, some_is, get_below, get_reads, read_get, above_placed, below_placed, above_at, below_at}
 use Rattle.layer_rules.proofs.FixedRuleLists.{any_passes, passes_any}
 use Rattle.layer_rules.proofs.CircleLists.{third_later}
-
--- ---- regions and faces
-
-in_place : (faces : List FoldedFace) (insides : List Region) (n : ℕ) → AreInsides faces insides
-    → (p : Position)
-    → IsSomeAnd (slice_get insides n) (IsInRegion p)
-    ↔ IsSomeAnd (slice_get faces n) (λ face. IsTrue (is_inside_face p face))
-in_place [] [] n h p = (λ x. x, λ x. x)
-in_place [] (r ∷ rs) n h p = absurd h
-in_place (f ∷ fs) [] n h p = absurd h
-in_place (f ∷ fs) (r ∷ rs) zero h p = h.0 p
-in_place (f ∷ fs) (r ∷ rs) (suc n) h p = in_place fs rs n h.1 p
-
-pub in_numbered : (shape : FoldedView) (insides : List Region) (f : ℕ) → AreInsides shape.faces insides
-    → (p : Position)
-    → IsInNumbered insides f p ↔ IsInside shape f p
-in_numbered shape insides zero h p = (λ x. x, λ x. x)
-in_numbered shape insides (suc n) h p = in_place shape.faces insides n h p
 
 -- ---- one rule on three pairs
 
@@ -130,22 +105,22 @@ other_side false x e = ap not e
 
 -- ---- all of them
 
-module _ (shape : FoldedView) (insides : List Region) (pairs : List FacePair) (list : IsPairList shape pairs) (same : AreInsides shape.faces insides) (signs : List Sign) where
-  triple_of : (ij jk ik : ℕ) (c : IsCircle insides pairs ij jk ik) → IsTriple shape c.i c.j c.k
+module _ (shape : FoldedView) (pairs : List FacePair) (list : IsPairList shape pairs) (signs : List Sign) where
+  triple_of : (ij jk ik : ℕ) (c : IsCircle shape pairs ij jk ik) → IsTriple shape c.i c.j c.k
   triple_of ij jk ik c = record {
     ascending = c.ascending;
     still_ascending = c.still_ascending;
     point = c.point;
-    in_first = (in_numbered shape insides c.i same c.point).0 c.in_first;
-    in_second = (in_numbered shape insides c.j same c.point).0 c.in_second;
-    in_third = (in_numbered shape insides c.k same c.point).0 c.in_third;
+    in_first = c.in_first;
+    in_second = c.in_second;
+    in_third = c.in_third;
   }
 
-  pub circles_break : (rules : List Rule) → AreCirclesBefore insides pairs (length pairs) 0 rules
+  pub circles_break : (rules : List Rule) → AreCirclesBefore shape pairs (length pairs) 0 rules
       → IsTrue (list_any (is_broken signs) rules) → BreaksTransitivity shape pairs signs
   circles_break rules h broken =
       let found = any_passes (is_broken signs) rules broken in
-      let rule = All-contains (IsCircleRule insides pairs) rules found.0 h.sound found.1 in
+      let rule = All-contains (IsCircleRule shape pairs) rules found.0 h.sound found.1 in
       let c = rule.circle in
       let round = broken_circle signs rule.ij rule.jk rule.ik (ap (is_broken signs) (sym rule.is) ∙ found.2) in
       let w = round.1 in (
@@ -161,7 +136,7 @@ module _ (shape : FoldedView) (insides : List Region) (pairs : List FacePair) (l
             ∙ ap Some (ap not w.third_is ∙ twice_not round.0),
       )
 
-  pub breaks_circles : (rules : List Rule) → AreCirclesBefore insides pairs (length pairs) 0 rules
+  pub breaks_circles : (rules : List Rule) → AreCirclesBefore shape pairs (length pairs) 0 rules
       → BreaksTransitivity shape pairs signs → IsTrue (list_any (is_broken signs) rules)
   breaks_circles rules h b =
       let i = b.0 in
@@ -173,7 +148,7 @@ module _ (shape : FoldedView) (insides : List Region) (pairs : List FacePair) (l
       let two = above_placed pairs signs j k x triple.still_ascending b.6 in
       let lower : i < k = omega (arith, triple.ascending, triple.still_ascending) in
       let three = below_placed pairs signs i k x lower b.7 in
-      let circle : IsCircle insides pairs one.1.place two.1.place three.1.place = record {
+      let circle : IsCircle shape pairs one.1.place two.1.place three.1.place = record {
         i = i;
         j = j;
         k = k;
@@ -183,9 +158,9 @@ module _ (shape : FoldedView) (insides : List Region) (pairs : List FacePair) (l
         second = two.1.pair;
         third = three.1.pair;
         point = triple.point;
-        in_first = (in_numbered shape insides i same triple.point).1 triple.in_first;
-        in_second = (in_numbered shape insides j same triple.point).1 triple.in_second;
-        in_third = (in_numbered shape insides k same triple.point).1 triple.in_third;
+        in_first = triple.in_first;
+        in_second = triple.in_second;
+        in_third = triple.in_third;
       } in
       let here = h.complete one.1.place two.1.place three.1.place circle
       (inl (get_below pairs one.1.place (pair_of i j) one.1.pair)) in
@@ -215,8 +190,8 @@ three_differ : (p q t : ℕ) → (p ≡ q → ⊥) → (p ≡ t → ⊥) → (q 
 three_differ p q t a b c =
     λ i. not (ne_eqb p q a i || (ne_eqb p t b i || false)) && (not (ne_eqb q t c i || false) && (not false && true))
 
-module _ (insides : List Region) (pairs : List FacePair) (up : AllPairs Precedes pairs) where
-  middle_differs : (n p q t : ℕ) (c : IsCircle insides pairs p q t) → (pair : FacePair)
+module _ (shape : FoldedView) (pairs : List FacePair) (up : AllPairs Precedes pairs) where
+  middle_differs : (n p q t : ℕ) (c : IsCircle shape pairs p q t) → (pair : FacePair)
       → slice_get pairs n ≡ Some pair
       → pair.i ≡ c.i → n ≡ q → ⊥
   middle_differs n p q t c pair e first same =
@@ -224,7 +199,7 @@ module _ (insides : List Region) (pairs : List FacePair) (up : AllPairs Precedes
       let one : pair ≡ pair_of c.j c.k = some_is pair (pair_of c.j c.k) (sym at ∙ c.second) in
       omega (arith, c.ascending, first, ap (λ (t : FacePair). t.i) one)
 
-  circle_on : (rule : Rule) → IsCircleRule insides pairs rule → is_rule_on (length pairs) rule ≡ true
+  circle_on : (rule : Rule) → IsCircleRule shape pairs rule → is_rule_on (length pairs) rule ≡ true
   circle_on rule r =
       let c = r.circle in
       let n = length pairs in
@@ -237,15 +212,15 @@ module _ (insides : List Region) (pairs : List FacePair) (up : AllPairs Precedes
       (and_from (nat_lt r.ik n) true (below r.ik (pair_of c.i c.k) c.third) refl)))
       (three_differ r.ij r.jk r.ik
       (λ e. middle_differs r.ij r.ij r.jk r.ik c (pair_of c.i c.j) c.first refl e)
-      (λ e. omega (arith, e, third_later insides pairs up r.ij r.jk r.ik c))
+      (λ e. omega (arith, e, third_later shape pairs up r.ij r.jk r.ik c))
       (λ e. middle_differs r.ik r.ij r.jk r.ik c (pair_of c.i c.k) c.third refl (sym e)))
 
-  pub circles_on : (p t : ℕ) (rules : List Rule) → AreCirclesBefore insides pairs p t rules
+  pub circles_on : (p t : ℕ) (rules : List Rule) → AreCirclesBefore shape pairs p t rules
       → IsTrue (are_rules_on (length pairs) rules)
   circles_on p t rules h =
       all_tests (is_rule_on (length pairs)) rules (λ k d below. circle_on _ (h.sound k d below))
 
-  pub circles_differ : (p t : ℕ) (rules : List Rule) → AreCirclesBefore insides pairs p t rules
+  pub circles_differ : (p t : ℕ) (rules : List Rule) → AreCirclesBefore shape pairs p t rules
       → AreDifferent rules
   circles_differ p t rules h =
       λ i j d less below same.
@@ -257,12 +232,11 @@ module _ (insides : List Region) (pairs : List FacePair) (up : AllPairs Precedes
 
 -- ---- the pairs of a shape are pairs of its faces, in order
 
-pub pairs_ordered : (shape : FoldedView) (pairs : List FacePair) (n : ℕ) → n ≡ length shape.faces
-    → IsPairList shape pairs
-    → AreOrdered n pairs
-pairs_ordered shape pairs n e list = record {
+pub pairs_ordered : (shape : FoldedView) (pairs : List FacePair) → IsPairList shape pairs
+    → AreOrdered (length shape.faces) pairs
+pairs_ordered shape pairs list = record {
   ascending = list.ascending;
   in_range = λ k d below.
       let is = (list.complete (slice_index_or pairs k d)).0 (Contains-get_or pairs k d below) in
-      (is.first, is.ascending, omega (arith, is.last, e));
+      (is.first, is.ascending, is.last);
 }

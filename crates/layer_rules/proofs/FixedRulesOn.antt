@@ -1,9 +1,10 @@
 -- The rules of creases are rules on the pairs, and no rule is there twice.
-use Rattle.std.proofs.Common.{◌≡◌, ◌≢◌, ℕ, ◌+◌, ◌<◌, ◌≤◌, inl, inr, Bool, true, false, List, [], ◌∷◌, ◌++◌, length, refl, sym, ap, subst, ◌∙◌, arith}
+use Rattle.std.proofs.Common.{◌≡◌, ◌≢◌, ℕ, ◌+◌, ◌*◌, ◌<◌, ◌≤◌, inl, inr, Bool, true, false, List, [], ◌∷◌, ◌++◌, length, refl, sym, ap, subst, ◌∙◌, arith}
 use Rattle.std.specs.Prelude.{◌&&◌}
 use Rattle.std.specs.Bool.{IsTrue}
 use Rattle.std.specs.List.{All, AllPairs, Contains}
 use Rattle.std.proofs.lemmas.Bool.{and_from, lt-ltb}
+use Rattle.std.proofs.lemmas.List.{length-append}
 use Rattle.std.proofs.lemmas.List.Elements.{Contains-get_or, Contains-append_cases}
 use Rattle.std.proofs.lemmas.List.Folds.{list_all-append}
 use Rattle.std.proofs.lemmas.List.Kept.{AllPairs-cons}
@@ -97,3 +98,25 @@ module _ (shape : FoldedView) (kinds : List Kind) where
       let later = rule_is_fixed shape kinds (p + 1) pairs s n in
       let one = place_is p ((p + 1) + later.place) first.0 later.sign (sym first.2 ∙ same ∙ later.is) in
       omega (arith, one))
+
+-- ---- at most two for each pair
+
+fixed_few : (wanted : Bool) (p : ℕ) (sign : Sign) → length (fixed_rule wanted p sign) ≤ 1
+fixed_few true p sign = omega arith
+fixed_few false p sign = omega arith
+
+pub few_rules : (shape : FoldedView) (kinds : List Kind) (p : ℕ) (pairs : List FacePair)
+    → length (fixed_rules_from shape kinds p pairs) ≤ 2 * length pairs
+unfolding fixed_rules
+few_rules shape kinds p [] = omega arith
+few_rules shape kinds p (pair ∷ pairs) =
+    let over = fixed_rule (is_wanted shape kinds pair Over) p Over in
+    let under = fixed_rule (is_wanted shape kinds pair Under) p Under in
+    omega (
+      arith,
+      length-append (over ++ under) (fixed_rules_from shape kinds (p + 1) pairs),
+      length-append over under,
+      fixed_few (is_wanted shape kinds pair Over) p Over,
+      fixed_few (is_wanted shape kinds pair Under) p Under,
+      few_rules shape kinds (p + 1) pairs,
+    )

@@ -1,6 +1,6 @@
 -- A folded face and its region have the same points.
-use Rattle.std.proofs.Common.{◌≡◌, ℕ, zero, suc, ◌-◌, ◌<◌, ◌≤◌, List, [], ◌∷◌, length, sym, subst, arith}
-use Rattle.std.specs.Prelude.{◌↔◌, slice_index_or}
+use Rattle.std.proofs.Common.{◌≡◌, ℕ, zero, suc, ◌-◌, ◌≤◌, List, [], ◌∷◌, Some, subst, arith}
+use Rattle.std.specs.Prelude.{◌↔◌}
 use Rattle.std.specs.Bool.{IsTrue}
 use Rattle.std.specs.List.{slice_get}
 use Rattle.std.specs.Option.{IsSomeAnd}
@@ -12,31 +12,29 @@ use Rattle.isometry_map.specs.Folded.{FoldedView}
 use Rattle.layer_rules.specs.Faces.{is_inside_face, IsInside, Overlap}
 use Rattle.layer_rules.specs.Insides.{AreInsides}
 
-at_place : (faces : List FoldedFace) (insides : List Region) (n : ℕ) (region : Region)
-    → AreInsides faces insides → n < length insides → region ≡ slice_index_or insides n region
-    → (p : Position)
+region_is : (r s : Region) → Some r ≡ Some s → r ≡ s
+region_is r s e = cc
+
+at_place : (faces : List FoldedFace) (regions : List Region) (n : ℕ) (region : Region)
+    → AreInsides faces regions → slice_get regions n ≡ Some region → (p : Position)
     → IsInRegion p region ↔ IsSomeAnd (slice_get faces n) (λ face. IsTrue (is_inside_face p face))
-at_place faces [] n region h below e p = absurd (omega arith)
-at_place [] (r ∷ rs) n region h below e p = absurd h
-at_place (f ∷ fs) (r ∷ rs) zero region h below e p =
-    subst (λ (t : Region). IsInRegion p t ↔ IsTrue (is_inside_face p f)) (sym e) (h.0 p)
-at_place (f ∷ fs) (r ∷ rs) (suc n) region h below e p = at_place fs rs n region h.1 (omega arith) e p
+at_place faces [] n region h e p = cc
+at_place [] (r ∷ rs) n region h e p = absurd h
+at_place (f ∷ fs) (r ∷ rs) zero region h e p =
+    subst (λ (t : Region). IsInRegion p t ↔ IsTrue (is_inside_face p f)) (region_is r region e) (h.0 p)
+at_place (f ∷ fs) (r ∷ rs) (suc n) region h e p = at_place fs rs n region h.1 e p
 
-pub inside_at : (shape : FoldedView) (insides : List Region) (f : ℕ) (region : Region)
-    → AreInsides shape.faces insides → 1 ≤ f → f ≤ length insides
-    → region ≡ slice_index_or insides (f - 1) region → (p : Position)
+pub inside_at : (shape : FoldedView) (regions : List Region) (f : ℕ) (region : Region)
+    → AreInsides shape.faces regions → 1 ≤ f → slice_get regions (f - 1) ≡ Some region → (p : Position)
     → IsInRegion p region ↔ IsInside shape f p
-inside_at shape insides zero region h first last e p = absurd (omega arith)
-inside_at shape insides (suc n) region h first last e p =
+inside_at shape regions zero region h first e p = absurd (omega arith)
+inside_at shape regions (suc n) region h first e p =
     let one_less : suc n - 1 ≡ n = omega arith in
-    at_place shape.faces insides n region h (omega arith)
-    (subst (λ (k : ℕ). region ≡ slice_index_or insides k region) one_less e) p
+    at_place shape.faces regions n region h (subst (λ (k : ℕ). slice_get regions k ≡ Some region) one_less e) p
 
-pub overlap_at : (shape : FoldedView) (insides : List Region) (f g : ℕ) (r s : Region)
-    → AreInsides shape.faces insides → 1 ≤ f → f ≤ length insides → 1 ≤ g → g ≤ length insides
-    → r ≡ slice_index_or insides (f - 1) r → s ≡ slice_index_or insides (g - 1) s
+pub overlap_at : (shape : FoldedView) (f g : ℕ) (r s : Region)
+    → ((p : Position) → IsInRegion p r ↔ IsInside shape f p)
+    → ((p : Position) → IsInRegion p s ↔ IsInside shape g p)
     → ((p : Position) × IsInRegion p r × IsInRegion p s) ↔ Overlap shape f g
-overlap_at shape insides f g r s h f1 f2 g1 g2 e k =
-    let first = inside_at shape insides f r h f1 f2 e in
-    let second = inside_at shape insides g s h g1 g2 k in
+overlap_at shape f g r s first second =
     (λ x. (x.0, (first x.0).0 x.1, (second x.0).0 x.2), λ x. (x.0, (first x.0).1 x.1, (second x.0).1 x.2))

@@ -1,10 +1,13 @@
 -- Rules of all four conditions, one list behind another.
-use Rattle.std.proofs.Common.{◌≡◌, ℕ, Bool, true, false, not, List, ◌++◌, length, refl, sym, ap, subst, ◌∙◌}
+use Rattle.std.proofs.Common.{◌≡◌, ℕ, ◌*◌, ◌<◌, ◌≤◌, Bool, true, false, not, List, ◌++◌, length, refl, sym, ap, subst, ◌∙◌, arith}
 use Rattle.std.specs.Prelude.{◌↔◌, ◌||◌, nat_le}
 use Rattle.std.specs.Bool.{IsTrue}
 use Rattle.std.specs.List.{list_any}
 use Rattle.std.proofs.lemmas.Bool.{and_parts, and_from, true≢false, false≢true, le-leb, leb-true, not-true}
+use Rattle.std.proofs.Math.Nat.{mul-le-mul_left, mul-le-mul_right}
+use Rattle.std.proofs.lemmas.List.{length-append}
 use Rattle.std.proofs.lemmas.List.Folds.{list_any-append, list_all-append}
+use Rattle.crease_model.specs.Rules.{most_pieces}
 use Rattle.crease_model.specs.declared.Kind.{Kind}
 use Rattle.isometry_map.specs.Folded.{FoldedView}
 use Rattle.sign_rules.specs.declared.sign.Sign.{Sign}
@@ -13,6 +16,8 @@ use Rattle.sign_rules.specs.Rule.{is_rule_on}
 use Rattle.sign_rules.specs.Rules.{RulesView, are_rules_on, is_broken, is_consistent}
 use Rattle.layer_rules.specs.declared.face_pairs.FacePair.{FacePair}
 use Rattle.layer_rules.specs.CreaseCondition.{BreaksCreaseCondition}
+use Rattle.layer_rules.specs.FacePairs.{most_pairs, most_folded_faces}
+use Rattle.layer_rules.specs.Layering.{most_rules}
 use Rattle.layer_rules.specs.TacoTortilla.{BreaksTacoTortilla}
 use Rattle.layer_rules.specs.TacoTaco.{BreaksTacoTaco}
 use Rattle.layer_rules.specs.Transitivity.{BreaksTransitivity}
@@ -106,3 +111,33 @@ all_on n a b c d rules on_a on_b on_c on_d e =
     (list_all-append (is_rule_on n) (a ++ b) c
     ∙ and_from _ _ (list_all-append (is_rule_on n) a b ∙ and_from _ _ on_a on_b) on_c)
     on_d
+
+-- ---- how many rules there are at most
+
+product_few : (m n a b : ℕ) → m ≤ a → n ≤ b → m * n ≤ a * b
+product_few m n a b h k = omega (arith, mul-le-mul_right n h, mul-le-mul_left a k)
+
+pub all_few : (shape : FoldedView) (pairs : List FacePair) (a b c d rules : List Rule)
+    → rules ≡ ((a ++ b) ++ c) ++ d → length shape.faces ≤ most_folded_faces → length shape.creases ≤ most_pieces
+    → length pairs ≤ most_pairs → length a ≤ 2 * length pairs
+    → length b ≤ length shape.creases * length shape.faces
+    → length c ≤ length shape.creases * length shape.creases → length d ≤ length pairs * length pairs
+    → length rules < most_rules
+all_few shape pairs a b c d rules same faces creases few in_a in_b in_c in_d =
+    let n = length pairs in
+    let m = length shape.creases in
+    omega (
+      arith,
+      ap (λ (l : List Rule). length l) same,
+      length-append ((a ++ b) ++ c) d,
+      length-append (a ++ b) c,
+      length-append a b,
+      few,
+      in_a,
+      in_b,
+      in_c,
+      in_d,
+      product_few m (length shape.faces) 2000 65536 creases faces,
+      product_few m m 2000 2000 creases creases,
+      product_few n n 8192 8192 few few,
+    )

@@ -18,7 +18,7 @@ number_is m n e = cc
 not_memory : {T : Type 0} (m : ℕ) → HasMemory {T = T} (Err (TooManyPairs m))
 not_memory {T} m e = let same : TooManyPairs m ≡ Memory = err_is {T = T} (TooManyPairs m) Memory e in cc
 
-counted : (shape : FoldedView) (pairs : List FacePair) (n : ℕ) → IsPairList shape pairs → HasPairCount shape n
+pub counted : (shape : FoldedView) (pairs : List FacePair) (n : ℕ) → IsPairList shape pairs → HasPairCount shape n
     → length pairs ≡ n
 counted shape pairs n h k = ap length (one_pair_list shape pairs k.0 h k.1) ∙ k.2
 

@@ -1,11 +1,11 @@
 -- Rules that are put behind others, one after another.
-use Rattle.std.proofs.Common.{◌≡◌, ℕ, ◌+◌, ◌≤◌, ◌⊎◌, inl, inr, Bool, true, false, List, [], ◌∷◌, ◌++◌, length, Option, Some, None, refl, sym, ap, subst, ◌∙◌, arith}
+use Rattle.std.proofs.Common.{◌≡◌, ℕ, ◌+◌, ◌*◌, ◌≤◌, ◌⊎◌, inl, inr, Bool, true, false, List, [], ◌∷◌, ◌++◌, length, Option, Some, None, refl, sym, ap, subst, ◌∙◌, arith}
 use Rattle.std.specs.Prelude.{◌↔◌, ◌||◌}
 use Rattle.std.specs.Bool.{IsTrue}
 use Rattle.std.specs.List.{Contains, list_any, slice_get}
 use Rattle.std.specs.Option.{option_to_list}
 use Rattle.std.proofs.lemmas.Bool.{or_cases, and_from, cases_lt, false≢true}
-use Rattle.std.proofs.lemmas.List.{append-nil}
+use Rattle.std.proofs.lemmas.List.{append-nil, length-append}
 use Rattle.std.proofs.lemmas.List.Folds.{list_any-append, list_all-append}
 use Rattle.sign_rules.specs.declared.sign.Sign.{Sign}
 use Rattle.sign_rules.specs.declared.rule.Rule.{Rule}
@@ -27,15 +27,18 @@ or_true true e = refl
 or_true false e = e
 
 module _ (count : ℕ) (Breaks : List Sign → Type 0) where
-  nothing_made : (rules : List Rule) → ((signs : List Sign) → ¬ Breaks signs) → MakesRules count Breaks rules rules
-  nothing_made rules never = record {
+  nothing_made : (most : ℕ) (rules : List Rule) → ((signs : List Sign) → ¬ Breaks signs)
+      → MakesRules count most Breaks rules rules
+  nothing_made most rules never = record {
+    few = omega arith;
     on_pairs = λ on. on;
     meaning = λ signs. (λ any. inl any, λ either. elim either [ inl any ↦ any | inr breaks ↦ absurd (never signs breaks) ]);
   }
 
   one_made : (rule : Rule) (rules : List Rule) → IsRuleFor count Breaks rule
-      → MakesRules count Breaks rules (rules ++ rule ∷ [])
+      → MakesRules count 1 Breaks rules (rules ++ rule ∷ [])
   one_made rule rules is = record {
+    few = omega (arith, length-append rules (rule ∷ []));
     on_pairs = λ on.
         list_all-append (is_rule_on count) rules (rule ∷ []) ∙ and_from _ _ on (and_from _ _ is.on_pairs refl);
     meaning = λ signs. (
@@ -57,19 +60,21 @@ module _ (count : ℕ) (Breaks : List Sign → Type 0) where
   }
 
   pub rule_made : (found : Option Rule) (old new : List Rule) → MakesRule count Breaks found
-      → new ≡ old ++ option_to_list found → MakesRules count Breaks old new
+      → new ≡ old ++ option_to_list found → MakesRules count 1 Breaks old new
   rule_made None old new never e =
-      subst (λ (l : List Rule). MakesRules count Breaks old l) (sym (e ∙ append-nil old)) (nothing_made old never)
+      subst (λ (l : List Rule). MakesRules count 1 Breaks old l) (sym (e ∙ append-nil old)) (nothing_made 1 old never)
   rule_made (Some rule) old new is e =
-      subst (λ (l : List Rule). MakesRules count Breaks old l) (sym e) (one_made rule old is)
+      subst (λ (l : List Rule). MakesRules count 1 Breaks old l) (sym e) (one_made rule old is)
 
-module _ (count : ℕ) (Breaks : ℕ → List Sign → Type 0) where
-  pub none_made : (rules : List Rule) → MakesRules count (ForSomeBelow Breaks 0) rules rules
-  none_made rules = nothing_made count (ForSomeBelow Breaks 0) rules (λ signs some. omega (arith, some.1))
+module _ (count each : ℕ) (Breaks : ℕ → List Sign → Type 0) where
+  pub none_made : (rules : List Rule) → MakesRules count (0 * each) (ForSomeBelow Breaks 0) rules rules
+  none_made rules = nothing_made count (ForSomeBelow Breaks 0) (0 * each) rules (λ signs some. omega (arith, some.1))
 
-  pub more_made : (n : ℕ) (old mid new : List Rule) → MakesRules count (ForSomeBelow Breaks n) old mid
-      → MakesRules count (Breaks n) mid new → MakesRules count (ForSomeBelow Breaks (n + 1)) old new
+  pub more_made : (n : ℕ) (old mid new : List Rule) → MakesRules count (n * each) (ForSomeBelow Breaks n) old mid
+      → MakesRules count each (Breaks n) mid new
+      → MakesRules count ((n + 1) * each) (ForSomeBelow Breaks (n + 1)) old new
   more_made n old mid new h k = record {
+    few = omega (arith, h.few, k.few);
     on_pairs = λ on. k.on_pairs (h.on_pairs on);
     meaning = λ signs. (
       λ any.
@@ -101,21 +106,23 @@ module _ (count : ℕ) (Breaks : ℕ → List Sign → Type 0) where
           ]
 
 -- what is broken of rules that were made from nothing
-pub from_nothing : (count : ℕ) (Breaks : List Sign → Type 0) (rules : List Rule) → MakesRules count Breaks [] rules
-    → (signs : List Sign) → IsTrue (list_any (is_broken signs) rules) ↔ Breaks signs
-from_nothing count Breaks rules h signs = (
+pub from_nothing : (count most : ℕ) (Breaks : List Sign → Type 0) (rules : List Rule)
+    → MakesRules count most Breaks [] rules → (signs : List Sign)
+    → IsTrue (list_any (is_broken signs) rules) ↔ Breaks signs
+from_nothing count most Breaks rules h signs = (
   λ any. elim ((h.meaning signs).0 any) [ inl none ↦ absurd (false≢true none) | inr breaks ↦ breaks ],
   λ breaks. (h.meaning signs).1 (inr breaks),
 )
 
-pub on_from_nothing : (count : ℕ) (Breaks : List Sign → Type 0) (rules : List Rule)
-    → MakesRules count Breaks [] rules → IsTrue (are_rules_on count rules)
-on_from_nothing count Breaks rules h = h.on_pairs refl
+pub on_from_nothing : (count most : ℕ) (Breaks : List Sign → Type 0) (rules : List Rule)
+    → MakesRules count most Breaks [] rules → IsTrue (are_rules_on count rules)
+on_from_nothing count most Breaks rules h = h.on_pairs refl
 
 -- the same lists
-pub same_made : (count : ℕ) (A B : List Sign → Type 0) (old new : List Rule)
-    → ((signs : List Sign) → A signs ↔ B signs) → MakesRules count A old new → MakesRules count B old new
-same_made count A B old new same h = record {
+pub same_made : (count most : ℕ) (A B : List Sign → Type 0) (old new : List Rule)
+    → ((signs : List Sign) → A signs ↔ B signs) → MakesRules count most A old new → MakesRules count most B old new
+same_made count most A B old new same h = record {
+  few = h.few;
   on_pairs = h.on_pairs;
   meaning = λ signs. (
     λ any. elim ((h.meaning signs).0 any) [ inl before ↦ inl before | inr breaks ↦ inr ((same signs).0 breaks) ],
@@ -130,10 +137,10 @@ module _ {X : Type 0} (count : ℕ) (xs : List X) (Breaks : X → List Sign → 
   abbrev pub AtPlace : ℕ → List Sign → Type 0
   AtPlace n signs = (x : X) × (slice_get xs n ≡ Some x) × Breaks x signs
 
-  pub place_made : (n : ℕ) (x : X) (old new : List Rule) → slice_get xs n ≡ Some x
-      → MakesRules count (Breaks x) old new → MakesRules count (AtPlace n) old new
-  place_made n x old new e h =
-      same_made count (Breaks x) (AtPlace n) old new
+  pub place_made : (most n : ℕ) (x : X) (old new : List Rule) → slice_get xs n ≡ Some x
+      → MakesRules count most (Breaks x) old new → MakesRules count most (AtPlace n) old new
+  place_made most n x old new e h =
+      same_made count most (Breaks x) (AtPlace n) old new
       (λ signs. (
         λ breaks. (x, e, breaks),
         λ at. subst (λ (y : X). Breaks y signs) (some_is at.0 x (sym at.1 ∙ e)) at.2,
@@ -152,9 +159,9 @@ module _ {X : Type 0} (count : ℕ) (xs : List X) (Breaks : X → List Sign → 
   )
 
   -- for all elements
-  pub list_made : (end : ℕ) (old new : List Rule) → length xs ≤ end
-      → MakesRules count (ForSomeBelow AtPlace end) old new
-      → MakesRules count (λ signs. (x : X) × Contains xs x × Breaks x signs) old new
-  list_made end old new all h =
-      same_made count (ForSomeBelow AtPlace end) (λ signs. (x : X) × Contains xs x × Breaks x signs) old new
+  pub list_made : (most end : ℕ) (old new : List Rule) → length xs ≤ end
+      → MakesRules count most (ForSomeBelow AtPlace end) old new
+      → MakesRules count most (λ signs. (x : X) × Contains xs x × Breaks x signs) old new
+  list_made most end old new all h =
+      same_made count most (ForSomeBelow AtPlace end) (λ signs. (x : X) × Contains xs x × Breaks x signs) old new
       (at_all_places end all) h

@@ -6,7 +6,8 @@ use Rattle.std.specs.List.{Contains, list_any, slice_get}
 use Rattle.std.proofs.Math.Bool.{beq}
 use Rattle.std.proofs.lemmas.Bool.{and_parts, and_from, ne_eqb, true≢false, false≢true, lt-ltb, ltb-true}
 use Rattle.open_region.specs.declared.Region.{Region}
-use Rattle.open_region.specs.Region.{HasPointBetween}
+use Rattle.open_region.specs.Region.{HasPointBetween, IsInRegion}
+use Rattle.plane_geometry.specs.Position.{Position}
 use Rattle.isometry_map.specs.declared.folded.CreaseImage.{CreaseImage}
 use Rattle.isometry_map.specs.Folded.{FoldedView}
 use Rattle.sign_rules.specs.declared.sign.Sign.{Sign}
@@ -16,14 +17,13 @@ use Rattle.sign_rules.specs.Signs.{over_at}
 use Rattle.sign_rules.specs.Rule.{is_same, is_rule_on, is_met}
 use Rattle.sign_rules.specs.Rules.{is_decided, is_broken}
 use Rattle.layer_rules.specs.declared.face_pairs.FacePair.{FacePair}
+use Rattle.layer_rules.specs.Faces.{IsInside}
 use Rattle.layer_rules.specs.FacePairs.{IsPairList, ArePair}
 use Rattle.layer_rules.specs.Above.{above}
 use Rattle.layer_rules.specs.FacePlaces.{lesser_first}
 use Rattle.layer_rules.specs.RuleMeaning.{IsRuleFor, MakesRules, ForSomeBelow}
-use Rattle.layer_rules.specs.Insides.{AreInsides}
 use Rattle.layer_rules.specs.TacoTortilla.{RunsInto, PutsBetween, BreaksTacoTortillaAt, BreaksTacoTortilla}
 use Rattle.layer_rules.proofs.SignPlaces.{pair_of, some_is, get_below, get_contains}
-use Rattle.layer_rules.proofs.InsideRegions.{inside_at}
 use Rattle.layer_rules.proofs.RulesMade.{AtPlace, at_all_places, from_nothing}
 use Rattle.layer_rules.proofs.PlacedSigns.{pair_there, there_pair, above_decided, above_read}
 
@@ -189,13 +189,10 @@ module _ (shape : FoldedView) (pairs : List FacePair) (crease : CreaseImage) (u 
   no_second_pair list none h = none (pair_there shape pairs list crease.b u h.0.second_pair)
 
 -- a segment that enters the region of a face
-pub enters_at : (shape : FoldedView) (insides : List Region) (crease : CreaseImage) (n : ℕ) (region : Region)
-    → AreInsides shape.faces insides → n < length insides → region ≡ slice_index_or insides n region
-    → HasPointBetween region crease.image ↔ RunsInto shape crease (n + 1)
-enters_at shape insides crease n region h below e =
-    let one_less : n ≡ (n + 1) - 1 = omega arith in
-    let same = inside_at shape insides (n + 1) region h (omega arith) (omega arith)
-    (subst (λ (k : ℕ). region ≡ slice_index_or insides k region) one_less e) in
+pub enters_at : (shape : FoldedView) (crease : CreaseImage) (u : ℕ) (region : Region)
+    → ((p : Position) → IsInRegion p region ↔ IsInside shape u p)
+    → HasPointBetween region crease.image ↔ RunsInto shape crease u
+enters_at shape crease u region same =
     (λ x. (x.0, x.1, (same x.0).0 x.2), λ x. (x.0, x.1, (same x.0).1 x.2))
 
 -- ---- all creases and faces
@@ -227,11 +224,11 @@ module _ (shape : FoldedView) (pairs : List FacePair) where
     λ h. (h.0, h.2, face_below h.0 h.1 signs h.3),
   )
 
-  pub tortillas_made : (count end : ℕ) (rules : List Rule) → length shape.creases ≤ end
-      → MakesRules count (ForSomeBelow (AtPlace count shape.creases OfCrease) end) [] rules → (signs : List Sign)
+  pub tortillas_made : (count most end : ℕ) (rules : List Rule) → length shape.creases ≤ end
+      → MakesRules count most (ForSomeBelow (AtPlace count shape.creases OfCrease) end) [] rules → (signs : List Sign)
       → IsTrue (list_any (is_broken signs) rules) ↔ BreaksTacoTortilla shape pairs signs
-  tortillas_made count end rules all made signs =
-      let nothing = from_nothing count (ForSomeBelow (AtPlace count shape.creases OfCrease) end) rules made signs in
+  tortillas_made count most end rules all made signs =
+      let nothing = from_nothing count most (ForSomeBelow (AtPlace count shape.creases OfCrease) end) rules made signs in
       let places = at_all_places count shape.creases OfCrease end all signs in
       let whole = all_of_them signs in
       (λ any. whole.0 (places.0 (nothing.0 any)), λ breaks. nothing.1 (places.1 (whole.1 breaks)))

@@ -3,21 +3,18 @@ use Rattle.std.specs.Prelude.{ℕ, zero, suc, Bool, ◌&&◌, ◌||◌, ◌==◌
 use Rattle.std.specs.Option.{IsSomeAnd, option_map}
 use Rattle.std.specs.List.{slice_get, list_any}
 use Rattle.plane_geometry.specs.Position.{Position}
-use Rattle.plane_geometry.specs.Polygon.{is_in_polygon}
 use Rattle.isometry_map.specs.declared.folded.FoldedFace.{FoldedFace}
 use Rattle.isometry_map.specs.declared.folded.CreaseImage.{CreaseImage}
-use Rattle.isometry_map.specs.Folded.{FoldedView, counterclockwise}
+use Rattle.isometry_map.specs.Folded.{FoldedView}
+pub use Rattle.wireframe_fold.specs.Inside.{is_inside_face}
 
 -- the n-th, counted from 1
 abbrev pub numbered : {X : Type 0} → List X → ℕ → Option X
 numbered xs zero = None
 numbered xs (suc n) = slice_get xs n
 
--- strictly inside a folded face
-abbrev pub is_inside_face : Position → FoldedFace → Bool
-is_inside_face p face = is_in_polygon (counterclockwise face.turned face.corners) p
-
--- strictly inside the folded face of this number
+-- strictly inside the folded face of this number: just the images of the points that are strictly left of all sides
+-- of the face, as the clause `inside` of `fold` and of `instance` says
 abbrev pub IsInside : FoldedView → ℕ → Position → Type 0
 IsInside shape f p = IsSomeAnd (numbered shape.faces f) (λ face. IsTrue (is_inside_face p face))
 

@@ -1,5 +1,6 @@
 -- The layers of a pattern: its folded shape, its pairs of faces, and the rules on their signs; or why it has none.
-use Rattle.std.specs.Prelude.{◌≡◌, ℕ, ◌<◌, ◌≤◌, List, length, map, ⊤}
+use Rattle.std.specs.Prelude.{◌≡◌, ◌≢◌, ℕ, ◌<◌, ◌≤◌, List, length, map, Err, ⊤}
+use Rattle.std.specs.declared.result.Result.{Result}
 use Rattle.crease_model.specs.declared.Kind.{Kind}
 use Rattle.crease_model.specs.declared.Piece.{Piece}
 use Rattle.crease_model.specs.View.{PatternView}
@@ -10,6 +11,7 @@ use Rattle.face_builder.specs.View.{FaceMapView}
 use Rattle.face_builder.specs.Faces.{IsFaceMap, IsNotConvexAt, AreTooMany, IsUnreached}
 use Rattle.wireframe_fold.specs.declared.faults.WireFault.{WireFault}
 use Rattle.wireframe_fold.specs.declared.faults.WireFault.TheVariants as wire
+use Rattle.wireframe_fold.specs.Inside.{KeepsInsides}
 use Rattle.wireframe_fold.specs.Fold.{IsShape, IsOpenAt, IsOutAt, AreTooManyLines}
 use Rattle.sign_rules.specs.Rules.{RulesView}
 use Rattle.layer_rules.specs.declared.face_pairs.FacePair.{FacePair}
@@ -31,6 +33,10 @@ kinds_of pieces = map (λ p. p.kind) pieces
 -- the faces of the pattern
 abbrev pub HasFaces : PatternView → (FaceMapView → Type 0) → Type 0
 HasFaces p Is = (m : FaceMapView) × IsFaceMap m p × Is m
+
+-- what is strictly inside its folded faces are the images of the points strictly left of all sides of its faces
+abbrev pub KeepsInsidesOf : PatternView → FoldedView → Type 0
+KeepsInsidesOf p shape = HasFaces p (λ m. KeepsInsides m shape)
 
 -- the shape in which its faces fold
 abbrev pub IsShapeOf : PatternView → FoldedView → Type 0
@@ -60,6 +66,15 @@ fault_of_folding wire.Memory = Memory
 abbrev pub fault_of_pairs : PairsFault → InstanceFault
 fault_of_pairs (pairs.TooManyPairs count) = TooManyPairs count
 fault_of_pairs pairs.Memory = Memory
+
+-- so many rules are more than any pattern has: two for each pair, one for each crease and face, for each two creases,
+-- and for each two pairs
+abbrev pub most_rules : ℕ
+most_rules = 2147483648
+
+-- memory did not run out
+abbrev pub HasMemory : {T : Type 0} → Result T InstanceFault → Type 0
+HasMemory result = result ≢ Err Memory
 
 -- its faces fold in a shape with so many pairs, too many
 abbrev pub AreTooManyPairs : PatternView → ℕ → Type 0

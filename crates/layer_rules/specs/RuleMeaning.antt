@@ -1,5 +1,5 @@
 -- What rules say of sign lists: which lists break one of them.
-use Rattle.std.specs.Prelude.{ℕ, ◌<◌, ◌⊎◌, ◌↔◌, List, Option, MatchOption, IsTrue}
+use Rattle.std.specs.Prelude.{ℕ, ◌+◌, ◌<◌, ◌≤◌, ◌⊎◌, ◌↔◌, List, length, Option, MatchOption, IsTrue}
 use Rattle.std.specs.List.{list_any}
 use Rattle.sign_rules.specs.declared.sign.Sign.{Sign}
 use Rattle.sign_rules.specs.declared.rule.Rule.{Rule}
@@ -16,8 +16,9 @@ abbrev pub MakesRule : ℕ → (List Sign → Type 0) → Option Rule → Type 0
 MakesRule count Breaks found =
     MatchOption found ((signs : List Sign) → ¬ Breaks signs) (IsRuleFor count Breaks)
 
--- further rules on so many pairs, one of which just these lists break
-pub record MakesRules (count : ℕ) (Breaks : List Sign → Type 0) (old new : List Rule) : Type 0 where
+-- further rules on so many pairs, at most so many of them, one of which just these lists break
+pub record MakesRules (count most : ℕ) (Breaks : List Sign → Type 0) (old new : List Rule) : Type 0 where
+  pub few : length new ≤ length old + most
   pub on_pairs : IsTrue (are_rules_on count old) → IsTrue (are_rules_on count new)
   pub meaning : (signs : List Sign) → IsTrue (list_any (is_broken signs) new)
       ↔ (IsTrue (list_any (is_broken signs) old) ⊎ Breaks signs)

@@ -1,6 +1,6 @@
 //! Transitivity as rules: three folded faces with a point in common are not above each other in a circle.
 
-ghost use Rattle.std.specs.Prelude.{◌≡◌, ◌↔◌, ◌+◌, ◌<◌, ◌≤◌, List, Some, length, IfOk, OnOk, IsTrue};
+ghost use Rattle.std.specs.Prelude.{◌≡◌, ◌↔◌, ◌+◌, ◌*◌, ◌<◌, ◌≤◌, List, Some, length, IfOk, OnOk, IsTrue};
 ghost use Rattle.std.specs.List.{list_any, slice_get};
 ghost use Rattle.sign_rules.specs.declared.sign.Sign.{Sign};
 ghost use Rattle.sign_rules.specs.Rules.{are_rules_on, is_broken};
@@ -12,8 +12,7 @@ ghost use Rattle.layer_rules.specs.Circles.{IsCommon, AreOrdered, AreCirclesBefo
 
 use crate::face_pairs::FacePair;
 use crate::places::place;
-use crate::regions::{have_common_point, insides};
-use isometry_map::Folded;
+use crate::regions::{Insides, have_common_point};
 use open_region::Region;
 use sign_rules::Rule;
 use std::alloc::{AllocError, Global};
@@ -22,31 +21,31 @@ use std::alloc::{AllocError, Global};
 /// the places of the pairs of the first face with the second and with the third.
 pub fn transitivity_rules(
     alloc: Global,
-    folded: &Folded,
+    shape: &Insides,
     pairs: &[FacePair],
 ) -> Result<Vec<Rule>, AllocError>
-    requires pairs { IsPairList folded.now pairs.now }
+    requires pairs { IsPairList shape.now pairs.now }
     requires few { length pairs.now ≤ most_pairs }
 
     // A sign list breaks one of them that it decides exactly where it breaks an instance of transitivity.
     ensures meaning { IfOk result (λ v. (signs : List Sign) → IsTrue (list_any (is_broken signs) v.items)
-        ↔ BreaksTransitivity folded.now pairs.now signs) }
+        ↔ BreaksTransitivity shape.now pairs.now signs) }
     ensures rules { IfOk result (λ v. IsTrue (are_rules_on (length pairs.now) v.items)) }
     ensures different { IfOk result (λ v. AreDifferent v.items) }
+    ensures few { IfOk result (λ v. length v.items ≤ length pairs.now * length pairs.now) }
 {
-    let insides = insides(alloc, folded.faces())?;
-    circles(alloc, insides.as_slice(), pairs)
+    circles(alloc, shape, pairs)
 }
 
 /// The rules of all circles.
-fn circles(alloc: Global, insides: &[Region], pairs: &[FacePair]) -> Result<Vec<Rule>, AllocError>
-    requires pairs { AreOrdered (length insides.now) pairs.now }
+fn circles(alloc: Global, shape: &Insides, pairs: &[FacePair]) -> Result<Vec<Rule>, AllocError>
+    requires pairs { AreOrdered (length shape.now.faces) pairs.now }
     requires few { length pairs.now ≤ most_pairs }
-    ensures { IfOk result (λ v. AreCirclesBefore insides.now pairs.now (length pairs.now) 0 v.items) }
+    ensures { IfOk result (λ v. AreCirclesBefore shape.now pairs.now (length pairs.now) 0 v.items) }
 {
     let mut rules = Vec::new(alloc);
     for p in 0..pairs.len() {
-        push_circles(&mut rules, insides, pairs, p)?;
+        push_circles(&mut rules, shape, pairs, p)?;
     }
     Ok(rules)
 }
@@ -54,65 +53,65 @@ fn circles(alloc: Global, insides: &[Region], pairs: &[FacePair]) -> Result<Vec<
 /// Those of the pair at place `p` with each later face.
 fn push_circles(
     rules: &mut Vec<Rule>,
-    insides: &[Region],
+    shape: &Insides,
     pairs: &[FacePair],
     p: usize,
 ) -> Result<(), AllocError>
-    requires pairs { AreOrdered (length insides.now) pairs.now }
+    requires pairs { AreOrdered (length shape.now.faces) pairs.now }
     requires few { length pairs.now ≤ most_pairs }
     requires there { p < length pairs.now }
-    requires before { AreCirclesBefore insides.now pairs.now p 0 rules.old.items }
-    ensures { OnOk result (AreCirclesBefore insides.now pairs.now (p + 1) 0 rules.new.items) }
+    requires before { AreCirclesBefore shape.now pairs.now p 0 rules.old.items }
+    ensures { OnOk result (AreCirclesBefore shape.now pairs.now (p + 1) 0 rules.new.items) }
 {
     let pair = pair_at(pairs, p);
-    let common = common(insides, pair);
+    let common = common(shape, pair);
     for t in p + 1..pairs.len() {
         let other = pair_at(pairs, t);
         if other.i != pair.i {
             return Ok(());
         }
-        push_circle(rules, insides, pairs, &common, p, t)?;
+        push_circle(rules, shape, pairs, &common, p, t)?;
     }
     Ok(())
 }
 
 /// What both faces have in common.
-fn common(insides: &[Region], pair: &FacePair) -> Region
+fn common(shape: &Insides, pair: &FacePair) -> Region
     requires first { 1 ≤ pair.now.i }
     requires second { 1 ≤ pair.now.j }
-    requires first_there { pair.now.i ≤ length insides.now }
-    requires second_there { pair.now.j ≤ length insides.now }
-    ensures { IsCommon insides.now pair.now result }
+    requires first_there { pair.now.i ≤ length shape.now.faces }
+    requires second_there { pair.now.j ≤ length shape.now.faces }
+    ensures { IsCommon shape.now pair.now result }
 {
-    insides[pair.i as usize - 1].both(&insides[pair.j as usize - 1])
+    shape.region(pair.i).both(shape.region(pair.j))
 }
 
 /// That of the pair at place `p` with the second face of the one at place `t`, if there is one.
 fn push_circle(
     rules: &mut Vec<Rule>,
-    insides: &[Region],
+    shape: &Insides,
     pairs: &[FacePair],
     common: &Region,
     p: usize,
     t: usize,
 ) -> Result<(), AllocError>
-    requires pairs { AreOrdered (length insides.now) pairs.now }
+    requires pairs { AreOrdered (length shape.now.faces) pairs.now }
     requires few { length pairs.now ≤ most_pairs }
     requires later { p < t }
     requires there { t < length pairs.now }
     requires common { (pair : FacePair) → slice_get pairs.now p ≡ Some pair →
-        IsCommon insides.now pair common.now }
+        IsCommon shape.now pair common.now }
     requires one_face { (pair other : FacePair) → slice_get pairs.now p ≡ Some pair →
         slice_get pairs.now t ≡ Some other → other.i ≡ pair.i }
-    requires before { AreCirclesBefore insides.now pairs.now p t rules.old.items }
-    ensures { OnOk result (AreCirclesBefore insides.now pairs.now p (t + 1) rules.new.items) }
+    requires before { AreCirclesBefore shape.now pairs.now p t rules.old.items }
+    ensures { OnOk result (AreCirclesBefore shape.now pairs.now p (t + 1) rules.new.items) }
 {
     let pair = pair_at(pairs, p);
     let other = pair_at(pairs, t);
     let Some(q) = place(pairs, pair.j, other.j) else {
         return Ok(());
     };
-    if !have_common_point(common, &insides[other.j as usize - 1]) {
+    if !have_common_point(common, shape.region(other.j)) {
         return Ok(());
     }
     rules.push(Rule::NotCyclic {

@@ -1,6 +1,6 @@
 //! Creases by the lines that their images lie on.
 
-ghost use Rattle.std.specs.Prelude.{◌≡◌, ◌↔◌, IfOk};
+ghost use Rattle.std.specs.Prelude.{◌≡◌, ◌↔◌, ◌≤◌, length, IfOk};
 ghost use Rattle.std.specs.List.{AllZip, Contains};
 ghost use Rattle.std.specs.List.Sorted.{IsSorted};
 ghost use Rattle.layer_rules.specs.CreaseLines.{IsLineThrough, IsWithLine, compare_by_line, AreByLine};
@@ -50,7 +50,8 @@ pub(crate) fn by_line(
     alloc: Global,
     creases: &[CreaseImage],
 ) -> Result<Vec<LinedCrease>, AllocError>
-    ensures { IfOk result (λ v. AreByLine creases.now v.items) }
+    ensures lined { IfOk result (λ v. AreByLine creases.now v.items) }
+    ensures count { IfOk result (λ v. length v.items ≡ length creases.now) }
 {
     let mut lined = with_lines(alloc, creases)?;
     lined.sort_by_key(|x| x.line)?;
@@ -60,7 +61,8 @@ pub(crate) fn by_line(
 /// Those on the line, of creases that are sorted by their lines.
 pub(crate) fn on_line<'a>(lined: &'a [LinedCrease], line: &Line) -> &'a [LinedCrease]
     requires { IsSorted compare_by_line lined.now }
-    ensures { (x : LinedCrease) → Contains result.now x ↔ (Contains lined.now x × (x.line ≡ line.now)) }
+    ensures lined { (x : LinedCrease) → Contains result.now x ↔ (Contains lined.now x × (x.line ≡ line.now)) }
+    ensures few { length result.now ≤ length lined.now }
 {
     let start = lined.partition_point(|x| x.line.cmp(line).is_lt());
     let (_before, rest) = lined.split_at(start);

@@ -1,6 +1,6 @@
 //! The crease condition as rules: a face with its front up is above the one across a mountain, below that across a valley.
 
-ghost use Rattle.std.specs.Prelude.{◌≡◌, ◌↔◌, ◌≤◌, ◌++◌, List, length, IfOk, OnOk, IsTrue};
+ghost use Rattle.std.specs.Prelude.{◌≡◌, ◌↔◌, ◌*◌, ◌≤◌, ◌++◌, List, length, IfOk, OnOk, IsTrue};
 ghost use Rattle.std.specs.List.{list_any};
 ghost use Rattle.sign_rules.specs.declared.sign.Sign.{Sign};
 ghost use Rattle.sign_rules.specs.Rules.{are_rules_on, is_broken};
@@ -32,6 +32,7 @@ pub fn crease_rules(
         ↔ BreaksCreaseCondition folded.now kinds.now pairs.now signs) }
     ensures rules { IfOk result (λ v. IsTrue (are_rules_on (length pairs.now) v.items)) }
     ensures different { IfOk result (λ v. AreDifferent v.items) }
+    ensures few { IfOk result (λ v. length v.items ≤ 2 * length pairs.now) }
 {
     let mut rules = Vec::new(alloc);
     for (p, pair) in pairs.iter().enumerate() {

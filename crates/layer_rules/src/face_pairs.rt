@@ -4,14 +4,12 @@ ghost use Rattle.std.specs.Prelude.{◌≡◌, ◌↔◌, ◌+◌, ◌^◌, ◌<
 ghost use Rattle.std.specs.List.{list_any};
 ghost use Rattle.layer_rules.specs.Faces.{is_shared_by};
 ghost use Rattle.layer_rules.specs.FacePairs.{IsFacePair, IsPairList, HasPairCount, most_pairs, most_folded_faces};
-ghost use Rattle.layer_rules.specs.Insides.{AreInsides};
 ghost use Rattle.layer_rules.specs.Candidates.{AreBefore, AreCandidates};
 ghost use Rattle.layer_rules.specs.Answer.{HasMemory};
 ghost use Rattle.layer_rules.specs.declared.face_pairs.PairsFault.TheVariants.{TooManyPairs};
 
-use crate::regions::{insides, overlap};
-use isometry_map::{CreaseImage, Folded};
-use open_region::Region;
+use crate::regions::{Insides, overlap};
+use isometry_map::CreaseImage;
 use rayon::prelude::*;
 use std::alloc::{AllocError, Global};
 use std::thread::Threads;
@@ -51,18 +49,16 @@ const MOST_PAIRS: usize = 8192;
 pub fn pairs<R: Threads + Sync>(
     rt: &R,
     alloc: Global,
-    folded: &Folded,
+    shape: &Insides,
 ) -> Result<Vec<FacePair>, PairsFault>
-    requires { length folded.now.faces ≤ most_folded_faces }
-    ensures pairs { IfOk result (λ v. IsPairList folded.now v.items) }
+    requires { length shape.now.faces ≤ most_folded_faces }
+    ensures pairs { IfOk result (λ v. IsPairList shape.now v.items) }
     ensures few { IfOk result (λ v. length v.items ≤ most_pairs) }
     ensures too_many { (n : ℕ) → IsErrOf result (TooManyPairs n) ↔
-        (HasMemory result × (most_pairs < n) × HasPairCount folded.now n) }
+        (HasMemory result × (most_pairs < n) × HasPairCount shape.now n) }
 {
-    let faces = folded.faces();
-    let insides = insides(alloc, faces)?;
-    let candidates = candidates(alloc, faces.len() as u32)?;
-    let pairs = meeting(rt, alloc, folded, insides.as_slice(), candidates.as_slice())?;
+    let candidates = candidates(alloc, shape.count() as u32)?;
+    let pairs = meeting(rt, alloc, shape, candidates.as_slice())?;
     if pairs.len() > MOST_PAIRS {
         return Err(PairsFault::TooManyPairs(pairs.len() as u32));
     }
@@ -100,36 +96,32 @@ fn push_row(candidates: &mut Vec<FacePair>, i: u32, faces: u32) -> Result<(), Al
 fn meeting<R: Threads + Sync>(
     rt: &R,
     alloc: Global,
-    folded: &Folded,
-    insides: &[Region],
+    shape: &Insides,
     candidates: &[FacePair],
 ) -> Result<Vec<FacePair>, AllocError>
-    requires insides { AreInsides folded.now.faces insides.now }
-    requires candidates { AreCandidates (length folded.now.faces) candidates.now }
-    ensures { IfOk result (λ v. IsPairList folded.now v.items × (length v.items < 2 ^ 32)) }
+    requires { AreCandidates (length shape.now.faces) candidates.now }
+    ensures { IfOk result (λ v. IsPairList shape.now v.items × (length v.items < 2 ^ 32)) }
 {
     candidates
         .par_iter()
         .copied()
         .filter(
             |pair: &FacePair| -> bool
-                requires { AreInsides folded.now.faces insides.now }
-                ensures { IsTrue result ↔ IsFacePair folded.entry.now pair.now }
-            { meets(folded, insides, pair) },
+                ensures { IsTrue result ↔ IsFacePair shape.entry.now pair.now }
+            { meets(shape, pair) },
         )
         .collect(rt, alloc)
 }
 
 /// Whether the two are a pair of the shape.
-fn meets(folded: &Folded, insides: &[Region], pair: &FacePair) -> bool
-    requires { AreInsides folded.now.faces insides.now }
-    ensures { IsTrue result ↔ IsFacePair folded.now pair.now }
+fn meets(shape: &Insides, pair: &FacePair) -> bool
+    ensures { IsTrue result ↔ IsFacePair shape.now pair.now }
 {
-    let (i, j) = (pair.i as usize, pair.j as usize);
-    if i < 1 || j <= i || insides.len() < j {
+    let (i, j) = (pair.i, pair.j);
+    if i < 1 || j <= i || shape.count() < j as usize {
         return false;
     }
-    overlap(&insides[i - 1], &insides[j - 1]) || have_a_piece(folded.creases(), pair)
+    overlap(shape.region(i), shape.region(j)) || have_a_piece(shape.creases(), pair)
 }
 
 /// Whether some crease has the two faces on its sides.

@@ -1,20 +1,23 @@
 //! The layers of a crease pattern: its faces folded flat, the pairs that lie on one another, and the rules of its orders.
 
-ghost use Rattle.std.specs.Prelude.{◌≡◌, ◌↔◌, ◌≤◌, ℕ, List, length, map, IfOk, IsTrue, MatchResult};
+ghost use Rattle.std.specs.Prelude.{◌≡◌, ◌↔◌, ◌<◌, ◌≤◌, ℕ, List, length, map, Ok, IfOk, IsErrOf, IsTrue, MatchResult};
 ghost use Rattle.std.specs.Arc.{arc_value};
 ghost use Rattle.std.specs.List.Sorted.{IsStrictlySortedBy};
 ghost use Rattle.crease_model.specs.declared.Kind.{Kind};
+ghost use Rattle.crease_model.specs.Rules.{most_pieces};
 ghost use Rattle.face_builder.specs.Faces.{most_faces};
 ghost use Rattle.isometry_map.specs.Folded.{FoldedView};
 ghost use Rattle.sign_rules.specs.declared.sign.Sign.{Sign};
 ghost use Rattle.sign_rules.specs.Rules.{RulesView, are_rules_on, is_broken, is_consistent};
-ghost use Rattle.layer_rules.specs.FacePairs.{IsPairList, most_pairs};
+ghost use Rattle.layer_rules.specs.FacePairs.{IsPairList, HasPairCount, most_pairs};
 ghost use Rattle.layer_rules.specs.LayerOrder.{IsConsistent};
 ghost use Rattle.layer_rules.specs.RuleOrder.{compare_rules};
-ghost use Rattle.layer_rules.specs.Layering.{IsLayering, IsInstanceFault, IsShapeOf, IsFaultBeforePairs, kinds_of};
+ghost use Rattle.layer_rules.specs.Layering.{IsLayering, IsInstanceFault, IsShapeOf, IsFaultBeforePairs, AreTooManyPairs, HasMemory, KeepsInsidesOf, kinds_of, most_rules};
+ghost use Rattle.layer_rules.specs.declared.layering.InstanceFault.TheVariants.{TooManyPairs};
 
 use crate::face_pairs::{FacePair, PairsFault, pairs};
 use crate::layer_orders::order_rules;
+use crate::regions::Insides;
 use crease_model::{Kind, Pattern, Piece};
 use face_builder::{FaceFault, faces};
 use isometry_map::Folded;
@@ -182,12 +185,9 @@ fn kinds_of(alloc: Global, pieces: &[Piece]) -> Result<Vec<Kind>, AllocError>
 fn rules_on(alloc: Global, pairs: usize, rules: Vec<Rule>) -> Result<Arc<Rules>, AllocError>
     requires few { pairs ≤ most_pairs }
     requires rules { IsTrue (are_rules_on pairs rules.items) }
+    requires numbers { length rules.items < most_rules }
     ensures { IfOk result (λ r. arc_value r ≡ record { pairs = pairs; rules = rules.items }) }
 {
-    // so many rules, 48 GiB of them, count as want of memory
-    if rules.len() >= 1 << 31 {
-        return Err(AllocError);
-    }
     let rules = Rules::new(alloc, pairs as u32, rules)?;
     let rules = Arc::new(alloc, rules)?;
     Ok(rules)
@@ -196,11 +196,43 @@ fn rules_on(alloc: Global, pairs: usize, rules: Vec<Rule>) -> Result<Arc<Rules>,
 /// The folded shape of a pattern, or why it has none.
 fn shape_of(alloc: Global, pattern: &Pattern) -> Result<Folded, InstanceFault>
     ensures exact { MatchResult result (IsShapeOf pattern.now) (IsFaultBeforePairs pattern.now) }
+    ensures shape { (shape : FoldedView) → (result ≡ Ok shape)
+        ↔ (HasMemory result × IsShapeOf pattern.now shape) }
+    ensures inside { IfOk result (KeepsInsidesOf pattern.now) }
     ensures few { IfOk result (λ shape. length shape.faces ≤ most_faces) }
+    ensures creases { IfOk result (λ shape. length shape.creases ≤ most_pieces) }
 {
     let map = faces(alloc, pattern)?;
     let folded = fold(alloc, &map)?;
     Ok(folded)
+}
+
+/// The layers of a pattern with this shape and these pairs.
+fn layering_with(
+    alloc: Global,
+    pattern: &Pattern,
+    shape: Insides,
+    pairs: Vec<FacePair>,
+) -> Result<Layering, AllocError>
+    requires shape { IsShapeOf pattern.now shape }
+    requires faces { length shape.faces ≤ most_faces }
+    requires creases { length shape.creases ≤ most_pieces }
+    requires pairs { IsPairList shape pairs.items }
+    requires few { length pairs.items ≤ most_pairs }
+    ensures layering { IfOk result (IsLayering pattern.now) }
+    ensures shape { IfOk result (λ l. l.shape ≡ shape) }
+    ensures meaning { IfOk result (λ l. (signs : List Sign) → IsTrue (is_consistent l.rules signs)
+        ↔ IsConsistent l.shape (kinds_of pattern.now.pieces) l.pairs signs) }
+    ensures order { IfOk result (λ l. IsStrictlySortedBy compare_rules l.rules.rules) }
+{
+    let kinds = kinds_of(alloc, pattern.pieces())?;
+    let rules = order_rules(alloc, &shape, kinds.as_slice(), pairs.as_slice())?;
+    let rules = rules_on(alloc, pairs.len(), rules)?;
+    Ok(Layering {
+        folded: shape.into_folded(),
+        pairs,
+        rules,
+    })
 }
 
 /// The pairs of a folded shape of the pattern, and the rules on them.
@@ -212,21 +244,19 @@ fn layering_of<R: Threads + Sync>(
 ) -> Result<Layering, InstanceFault>
     requires shape { IsShapeOf pattern.now folded }
     requires few { length folded.faces ≤ most_faces }
+    requires creases { length folded.creases ≤ most_pieces }
     ensures exact { MatchResult result (IsLayering pattern.now) (IsInstanceFault pattern.now) }
+    ensures shape { IfOk result (λ l. l.shape ≡ folded) }
+    ensures too_many_pairs { (n : ℕ) → IsErrOf result (TooManyPairs n)
+        ↔ (HasMemory result × (most_pairs < n) × HasPairCount folded n) }
     ensures meaning { IfOk result (λ l. (signs : List Sign) → IsTrue (is_consistent l.rules signs)
         ↔ IsConsistent l.shape (kinds_of pattern.now.pieces) l.pairs signs) }
-    ensures few { IfOk result (λ l. length l.shape.faces ≤ most_faces) }
     ensures order { IfOk result (λ l. IsStrictlySortedBy compare_rules l.rules.rules) }
 {
-    let pairs = pairs(rt, alloc, &folded)?;
-    let kinds = kinds_of(alloc, pattern.pieces())?;
-    let rules = order_rules(alloc, &folded, kinds.as_slice(), pairs.as_slice())?;
-    let rules = rules_on(alloc, pairs.len(), rules)?;
-    Ok(Layering {
-        folded,
-        pairs,
-        rules,
-    })
+    let shape = Insides::of(alloc, folded)?;
+    let pairs = pairs(rt, alloc, &shape)?;
+    let layering = layering_with(alloc, pattern, shape, pairs)?;
+    Ok(layering)
 }
 
 /// The layers of a pattern: its faces folded flat, the pairs of faces, and the rules that its layer orders meet.
@@ -237,6 +267,13 @@ pub fn instance<R: Threads + Sync>(
 ) -> Result<Layering, InstanceFault>
     // Its folded shape and its pairs, or the first refusal.
     ensures exact { MatchResult result (IsLayering pattern.now) (IsInstanceFault pattern.now) }
+
+    // Too many pairs are refused exactly with their number: a pattern has one folded shape at most.
+    ensures too_many_pairs { (n : ℕ) → IsErrOf result (TooManyPairs n)
+        ↔ (HasMemory result × AreTooManyPairs pattern.now n) }
+
+    // What is strictly inside its folded faces, on which pairs and conditions rest.
+    ensures inside { IfOk result (λ l. KeepsInsidesOf pattern.now l.shape) }
 
     // A sign list breaks no rule that it decides exactly where it breaks no condition all of whose pairs it decides.
     ensures meaning { IfOk result (λ l. (signs : List Sign) → IsTrue (is_consistent l.rules signs)

@@ -20,5 +20,6 @@ pub use creases::crease_rules;
 pub use face_pairs::{FacePair, PairsFault, pairs};
 pub use layer_orders::order_rules;
 pub use layering::{InstanceFault, Layering, instance};
+pub use regions::Insides;
 pub use tacos::taco_rules;
 pub use tortillas::tortilla_rules;

@@ -1,14 +1,16 @@
-//! What is strictly inside each folded face, as a region of the plane.
+//! What is strictly inside the folded faces of a shape, as regions of the plane.
 
-ghost use Rattle.std.specs.Prelude.{◌≡◌, ◌↔◌, IfOk, IsTrue};
+ghost use Rattle.std.specs.Prelude.{◌≡◌, ◌↔◌, ◌-◌, ◌≤◌, length, Some, slice_get, IfOk, IsTrue};
 ghost use Rattle.plane_geometry.specs.Position.{Position};
 ghost use Rattle.open_region.specs.Region.{IsInRegion};
 ghost use Rattle.isometry_map.specs.Folded.{is_convex_face, are_convex_faces};
+ghost use Rattle.layer_rules.specs.Faces.{IsInside};
 ghost use Rattle.layer_rules.specs.Insides.{IsInsideOf, AreInsides};
 
-use isometry_map::FoldedFace;
+use isometry_map::{CreaseImage, Folded, FoldedFace};
 use open_region::Region;
 use std::alloc::{AllocError, Global};
+use std::marker::Model;
 
 /// What is strictly inside a folded face.
 fn inside(alloc: Global, face: &FoldedFace) -> Result<Region, AllocError>
@@ -25,15 +27,89 @@ fn inside(alloc: Global, face: &FoldedFace) -> Result<Region, AllocError>
 }
 
 /// What is strictly inside each folded face, in the order of the faces.
-pub(crate) fn insides(alloc: Global, faces: &[FoldedFace]) -> Result<Vec<Region>, AllocError>
+fn regions_of(alloc: Global, faces: &[FoldedFace]) -> Result<Vec<Region>, AllocError>
     requires { IsTrue (are_convex_faces faces.now) }
     ensures { IfOk result (λ v. AreInsides faces.now v.items) }
 {
-    let mut insides = Vec::with_capacity(alloc, faces.len())?;
+    let mut regions = Vec::with_capacity(alloc, faces.len())?;
     for face in faces {
-        insides.push(inside(alloc, face)?)?;
+        regions.push(inside(alloc, face)?)?;
     }
-    Ok(insides)
+    Ok(regions)
+}
+
+/// The region of the face of this number.
+fn region_of(regions: &[Region], face: u32) -> &Region
+    requires first { 1 ≤ face }
+    requires last { face ≤ length regions.now }
+    ensures { slice_get regions.now (face - 1) ≡ Some result.now }
+{
+    &regions[face as usize - 1]
+}
+
+/// A folded shape with the region strictly inside each of its faces. It is seen as the shape.
+#[derive(Drop)]
+pub struct Insides {
+    folded: Folded,
+    regions: Vec<Region>,
+}
+
+impl Model for Insides {
+    ghost use Rattle.isometry_map.specs.Folded.{FoldedView};
+    ghost use Rattle.layer_rules.specs.Insides.{AreInsides};
+
+    ghost Value = { FoldedView };
+
+    ghost view = { λ s. s.folded };
+
+    ghost invariant = { λ s. AreInsides s.folded.faces s.regions.items };
+}
+
+impl Insides {
+    /// The shape with the regions of its faces.
+    pub fn of(alloc: Global, folded: Folded) -> Result<Insides, AllocError>
+        ensures { IfOk result (λ shape. shape ≡ folded) }
+    {
+        let regions = regions_of(alloc, folded.faces())?;
+        Ok(Insides { folded, regions })
+    }
+
+    /// The folded shape.
+    pub fn folded(&self) -> &Folded
+        ensures { result.now ≡ self.now }
+    {
+        &self.folded
+    }
+
+    /// The folded shape, without the regions.
+    pub fn into_folded(self) -> Folded
+        ensures { result ≡ self }
+    {
+        self.folded
+    }
+
+    /// The images of the shared pieces.
+    pub(crate) fn creases(&self) -> &[CreaseImage]
+        ensures { result.now ≡ self.now.creases }
+    {
+        self.folded.creases()
+    }
+
+    /// The number of faces.
+    pub(crate) fn count(&self) -> usize
+        ensures { result ≡ length self.now.faces }
+    {
+        self.folded.faces().len()
+    }
+
+    /// What is strictly inside the face of this number.
+    pub(crate) fn region(&self, face: u32) -> &Region
+        requires first { 1 ≤ face }
+        requires last { face ≤ length self.now.faces }
+        ensures { (p : Position) → IsInRegion p result.now ↔ IsInside self.now face p }
+    {
+        region_of(self.regions.as_slice(), face)
+    }
 }
 
 /// Whether some point of the plane is in both regions. Where opposite lines of the two leave nothing between them, their

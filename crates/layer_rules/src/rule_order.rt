@@ -1,6 +1,6 @@
 //! Rules in order, each once.
 
-ghost use Rattle.std.specs.Prelude.{◌≡◌, ◌↔◌};
+ghost use Rattle.std.specs.Prelude.{◌≡◌, ◌↔◌, ◌≤◌, length};
 ghost use Rattle.std.specs.List.{Contains};
 ghost use Rattle.std.specs.List.Sorted.{IsStrictlySortedBy};
 ghost use Rattle.sign_rules.specs.declared.rule.Rule.{Rule};
@@ -50,6 +50,7 @@ fn key(form: u8, p: u32, q: u32, r: u32, s: u32, last: bool) -> RuleKey
 pub(crate) fn in_order(mut rules: Vec<Rule>) -> Vec<Rule>
     ensures same { (rule : Rule) → Contains result.items rule ↔ Contains rules.items rule }
     ensures order { IsStrictlySortedBy compare_rules result.items }
+    ensures few { length result.items ≤ length rules.items }
 {
     rules.sort_unstable_by_key(|rule| key_of(rule));
     rules.dedup();

@@ -7,7 +7,7 @@ use Rattle.layer_rules.proofs.circles.push_circles.Goals as goal
 
 pub loop-t-init : goal.loop-t-init
 loop-t-init c =
-    circles_begin c.args.insides.now c.args.pairs.now c.requires.pairs.ascending c.args.p c.args.rules.now.items
+    circles_begin c.args.shape.now c.args.pairs.now c.requires.pairs.ascending c.args.p c.args.rules.now.items
     c.requires.before
 
 pub returns-then-other-pair : goal.returns-then-other-pair
@@ -19,7 +19,7 @@ returns-then-other-pair c =
     let other = c.pair_at-other.result.now in
     let e = c.pair_at-pair.ensures in
     let f = c.pair_at-other.ensures in
-    circles_stop c.args.insides.now pairs c.requires.pairs.ascending p t pair other c.loop-t.rules.items
+    circles_stop c.args.shape.now pairs c.requires.pairs.ascending p t pair other c.loop-t.rules.items
     (omega arith) e f c.if-other-pair.true c.loop-t.invariant
 
 pub push_circle-requires-clause-common : goal.push_circle-requires-clause-common
@@ -28,7 +28,7 @@ push_circle-requires-clause-common c =
     let pair = c.pair_at-pair.result.now in
     let e = c.pair_at-pair.ensures in
     λ pair' e'.
-    subst (λ (q : FacePair). IsCommon c.args.insides.now q c.common-common.result) (some_is pair pair' (sym e ∙ e'))
+    subst (λ (q : FacePair). IsCommon c.args.shape.now q c.common-common.result) (some_is pair pair' (sym e ∙ e'))
     c.common-common.ensures
 
 pub push_circle-requires-clause-one_face : goal.push_circle-requires-clause-one_face
@@ -44,5 +44,5 @@ push_circle-requires-clause-one_face c =
 
 pub returns : goal.returns
 returns c =
-    circles_end c.args.insides.now c.args.pairs.now c.requires.pairs.ascending c.args.p c.loop-t.t
+    circles_end c.args.shape.now c.args.pairs.now c.requires.pairs.ascending c.args.p c.loop-t.t
     c.loop-t.rules.items (omega arith) c.loop-t.invariant

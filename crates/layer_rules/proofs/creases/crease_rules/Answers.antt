@@ -1,4 +1,4 @@
-use Rattle.std.proofs.Common.{List, length, sym, subst, arith}
+use Rattle.std.proofs.Common.{List, length, sym, ap, subst, arith}
 use Rattle.std.specs.Bool.{IsTrue}
 use Rattle.std.specs.List.{list_any}
 use Rattle.sign_rules.specs.declared.rule.Rule.{Rule}
@@ -6,7 +6,7 @@ use Rattle.sign_rules.specs.Rules.{are_rules_on, is_broken}
 use Rattle.layer_rules.specs.RuleLists.{AreDifferent}
 use Rattle.layer_rules.specs.FixedRules.{fixed_rules_from}
 use Rattle.layer_rules.proofs.FixedRuleLists.{whole_list, fixed_breaks, breaks_fixed}
-use Rattle.layer_rules.proofs.FixedRulesOn.{rules_on, all_different}
+use Rattle.layer_rules.proofs.FixedRulesOn.{rules_on, all_different, few_rules}
 use Rattle.layer_rules.proofs.creases.crease_rules.Goals as goal
 
 pub returns-clause-meaning : goal.returns-clause-meaning
@@ -43,3 +43,12 @@ returns-clause-different c =
     let same = whole_list shape kinds c.loop-p.rules.items c.loop-p.p pairs
     (fixed_rules_from shape kinds 0 pairs) c.loop-p-test.false c.loop-p.invariant in
     subst AreDifferent (sym same) (all_different shape kinds 0 pairs)
+
+pub returns-clause-few : goal.returns-clause-few
+returns-clause-few c =
+    let shape = c.args.folded.now in
+    let kinds = c.args.kinds.now in
+    let pairs = c.args.pairs.now in
+    let same = whole_list shape kinds c.loop-p.rules.items c.loop-p.p pairs
+    (fixed_rules_from shape kinds 0 pairs) c.loop-p-test.false c.loop-p.invariant in
+    omega (arith, ap (λ (l : List Rule). length l) same, few_rules shape kinds 0 pairs)

@@ -10,7 +10,7 @@ use Rattle.layer_rules.proofs.face_pairs.meeting.Goals as goal
 
 pub returns : goal.returns
 returns g c =
-    let shape = c.args.folded.now in
+    let shape = c.args.shape.now in
     let candidates = c.args.candidates.now in
     IfOk-then c.collect.result _ _ c.collect.ensures (λ v h.
     let chain = rw (c.filter.ensures.base, c.filter.ensures.f, c.copied.ensures) at h.1 in
@@ -20,7 +20,7 @@ returns g c =
     let kept : v.items ≡ filter_by_mask candidates chain.1 =
     h.2 ∙ chain.4 ∙ ap (λ (l : List FacePair). filter_by_mask l chain.1) whole in (
       subst (λ (l : List FacePair). IsPairList shape l) (sym kept)
-          (kept_pairs shape candidates chain.1 c.requires.candidates
+          (kept_pairs shape candidates chain.1 c.requires
           (subst (λ (l : List FacePair). AllZip (λ pair b. IsTrue b ↔ IsFacePair shape pair) l chain.1) whole tells)),
-      omega (arith, ap length kept, length-filter_by_mask candidates chain.1, c.requires.candidates.few),
+      omega (arith, ap length kept, length-filter_by_mask candidates chain.1, c.requires.few),
     ))

@@ -5,19 +5,16 @@ use Rattle.plane_geometry.specs.DirView.{dir_number}
 use Rattle.layer_rules.proofs.Beside.{not_when, not_inside, none_left}
 use Rattle.layer_rules.proofs.tacos.has_nothing_left.Goals as goal
 
-pub returns-then-insides-f : goal.returns-then-insides-f
-returns-then-insides-f c =
-    λ shape insides. (
-      λ yes p inside side.
-          not_inside shape c.args.insides.now c.args.f p insides c.if-insides-f.true inside,
-      λ nothing. refl,
-    )
+pub returns-then-count-f : goal.returns-then-count-f
+returns-then-count-f c = (
+  λ yes p inside side. not_inside c.args.shape.now c.args.f p (omega arith) inside,
+  λ nothing. refl,
+)
 
 pub returns : goal.returns
 returns c =
-    λ shape insides.
-    let same = none_left shape c.args.f (position_of c.args.q.now) (dir_number c.args.dir) c.index-insides-f.result
-    c.cut.result c.args.insides.now insides (omega arith) (omega arith) c.index-insides-f.is c.cut.ensures in (
+    let same = none_left c.args.shape.now c.args.f (position_of c.args.q.now) (dir_number c.args.dir)
+    c.region.result.now c.cut.result c.region.ensures c.cut.ensures in (
       λ yes.
           same.0
           (λ some.

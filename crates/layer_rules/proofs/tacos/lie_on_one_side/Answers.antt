@@ -8,19 +8,17 @@ use Rattle.layer_rules.proofs.tacos.lie_on_one_side.Goals as goal
 
 pub returns-then-lie_beside : goal.returns-then-lie_beside
 returns-then-lie_beside c =
-    λ shape insides.
     let s = c.args.c.now.image in (
       λ yes.
           inl
-          (both_at shape c.args.c.now c.args.d.now c.from-q.result.now (lesser_end s) (dir_number c.dir-dir.result)
+          (both_at c.args.shape.now c.args.c.now c.args.d.now c.from-q.result.now (lesser_end s) (dir_number c.dir-dir.result)
           (direction_number s) c.from-q.ensures.value c.dir-dir.ensures.value
-          ((c.lie_beside.ensures shape insides).0 c.if-lie_beside.true)),
+          (c.lie_beside.ensures.0 c.if-lie_beside.true)),
       λ one. c.if-lie_beside.true,
     )
 
 pub returns-else-lie_beside : goal.returns-else-lie_beside
 returns-else-lie_beside c =
-    λ shape insides.
     let s = c.args.c.now.image in
     let first = c.args.c.now in
     let second = c.args.d.now in
@@ -32,19 +30,19 @@ returns-else-lie_beside c =
     let other : back ≡ opposite_number (direction_number s) = c.opposite.ensures ∙ ap opposite_number along in (
       λ yes.
           inr
-          (both_at shape first second q (lesser_end s) back (opposite_number (direction_number s)) at other
-          ((c.lie_beside-else-lie_beside.ensures shape insides).0 yes)),
+          (both_at c.args.shape.now first second q (lesser_end s) back (opposite_number (direction_number s)) at other
+          (c.lie_beside-else-lie_beside.ensures.0 yes)),
       λ one.
           elim one [
             | inl left ↦
                 absurd
                 (false≢true
                 (sym c.if-lie_beside.false
-                ∙ (c.lie_beside.ensures shape insides).1
-                (both_at shape first second (lesser_end s) q (direction_number s) n (sym at) (sym along) left)))
+                ∙ c.lie_beside.ensures.1
+                (both_at c.args.shape.now first second (lesser_end s) q (direction_number s) n (sym at) (sym along) left)))
             | inr right ↦
-                (c.lie_beside-else-lie_beside.ensures shape insides).1
-                (both_at shape first second (lesser_end s) q (opposite_number (direction_number s)) back (sym at)
+                c.lie_beside-else-lie_beside.ensures.1
+                (both_at c.args.shape.now first second (lesser_end s) q (opposite_number (direction_number s)) back (sym at)
                 (sym other) right)
           ],
     )
