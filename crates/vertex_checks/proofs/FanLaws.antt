@@ -1,5 +1,5 @@
 -- The fan of a point of a pattern is just the rays in which pieces leave it, by ascending direction.
-use Rattle.std.proofs.Common.{◌≡◌, ◌+◌, ◌<◌, ◌≤◌, Bool, true, false, cond, ltb, ◌⊎◌, inl, inr, List, [], ◌∷◌, Option, None, Some, refl, sym, ap, subst, ◌∙◌, arith}
+use Rattle.std.proofs.Common.{◌≡◌, ℕ, ◌+◌, ◌<◌, ◌≤◌, length, Bool, true, false, cond, ltb, ◌⊎◌, inl, inr, List, [], ◌∷◌, Option, None, Some, refl, sym, ap, subst, ◌∙◌, arith}
 use Rattle.std.specs.Prelude.{Contains}
 use Rattle.std.specs.List.Sorted.{IsStrictlySortedBy}
 use Rattle.std.specs.declared.cmp.Ordering.TheVariants.{Less}
@@ -19,7 +19,7 @@ use Rattle.line_split.specs.MemberLaws.{Member, member, contained, all_member}
 use Rattle.line_split.specs.SortedLaws.{before_members, sorted_cons, sorted_rest, sorted_none, sorted_single, one_sorted}
 use Rattle.vertex_checks.specs.declared.fans.Ray.{Ray}
 use Rattle.vertex_checks.specs.Fan.{ray_number, ray_of, Leaves, compare_rays, IsFan, ray_at, with_ray, with_ray_if, fan_from, fan_of}
-use Rattle.vertex_checks.specs.Laws.{DirectionsDiffer, FanIsOne}
+use Rattle.vertex_checks.specs.Laws.{DirectionsDiffer, FanIsOne, FanIsSmall}
 use Rattle.vertex_checks.proofs.SortedLists.{cmp_less}
 use Rattle.vertex_checks.proofs.LeavesApart.{leave_apart, leave_once}
 
@@ -240,3 +240,16 @@ pub directions_differ : DirectionsDiffer
 directions_differ pattern v p q r t rules a b l k e =
     leave_once v pattern.pieces p q r t rules.meetings (member pattern.pieces p a)
     (member pattern.pieces q b) l k e
+
+-- ascending rays from direction low on
+few_from : (low : ℕ) (fan : List Ray) → low ≤ 16 → IsStrictlySortedBy compare_rays fan
+    → ((r : Ray) → Member fan r → low ≤ ray_number r) → length fan + low ≤ 16
+few_from low [] few up from = omega (arith, few)
+few_from low (q ∷ qs) few up from =
+    let rest =
+    few_from (ray_number q + 1) qs (omega (arith, q.dir.in_range)) (sorted_rest compare_rays q qs up)
+    (λ r m. omega (arith, before_ray q r (before_members compare_rays q qs r up m))) in
+    omega (arith, rest, from q (inl refl))
+
+pub fan_is_small : FanIsSmall
+fan_is_small pieces v fan h = omega (arith, few_from 0 fan (omega arith) h.order (λ r m. omega arith))

@@ -33,6 +33,10 @@ pub record IsFan (pieces : List Piece) (v : Point) (fan : List Ray) : Type 0 whe
   pub rays : (r : Ray) → Contains fan r ↔ ((p : Piece) × Contains pieces p × Leaves v p r)
   pub order : IsStrictlySortedBy compare_rays fan
 
+-- at most so many creases leave a point: one in each direction
+abbrev pub most_rays : ℕ
+most_rays = 16
+
 -- ---- the same as a list
 
 -- how the piece leaves v: from its lesser end in its direction, and from its greater one in the opposite direction

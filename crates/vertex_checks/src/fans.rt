@@ -1,9 +1,9 @@
 //! The creases that leave each vertex.
 
-ghost use Rattle.std.specs.Prelude.{◌≡◌, ◌+◌, ◌≤◌, ◌<◌, length, ◌++◌, ◌∷◌, take, drop, IfOk, OnOk, if◌then◌else◌};
+ghost use Rattle.std.specs.Prelude.{◌≡◌, ◌+◌, ◌≤◌, ◌<◌, length, ◌++◌, ◌∷◌, take, drop, IfOk, IsOk, OnOk, if◌then◌else◌};
 ghost use Rattle.plane_geometry.specs.declared.Point.{Point};
 ghost use Rattle.plane_geometry.specs.DirView.{dir_number, dir_of};
-ghost use Rattle.vertex_checks.specs.Fan.{ray_of, ray_at, with_ray, with_ray_if, fan_from, fan_of};
+ghost use Rattle.vertex_checks.specs.Fan.{most_rays, ray_of, ray_at, with_ray, with_ray_if, fan_from, fan_of};
 ghost use Rattle.vertex_checks.specs.FanMap.{kept_fan};
 ghost use Rattle.line_split.specs.Points.{equal_points};
 
@@ -30,8 +30,8 @@ impl Default for Ray {
     }
 }
 
-/// The creases at each end of a piece, by their directions.
-pub(crate) type Fans = IndexMap<Point, SmallVec<Ray, 8>>;
+/// The creases at each end of a piece, by their directions: at most one in each of the 16.
+pub(crate) type Fans = IndexMap<Point, SmallVec<Ray, 16>>;
 
 fn ray_to(piece: &Piece, number: u8) -> Ray
     ensures { result ≡ ray_of piece.now number }
@@ -65,14 +65,23 @@ pub(crate) fn fan_in<'a>(fans: &'a Fans, v: &Point) -> &'a [Ray]
     }
 }
 
+// The rays with one more. As long as they are fewer than the directions, there is room for it.
+fn fan_with(alloc: Global, rays: &[Ray], ray: Ray) -> Result<SmallVec<Ray, 16>, AllocError>
+    ensures value { IfOk result (λ fan. fan.items ≡ with_ray rays.now ray) }
+    ensures room { length rays.now < most_rays → IsOk result }
+{
+    let mut fan = SmallVec::from_slice(alloc, rays)?;
+    let place = place_for(fan.as_slice(), &ray);
+    fan.insert(place, ray)?;
+    Ok(fan)
+}
+
 fn add_ray(alloc: Global, fans: &mut Fans, v: &Point, ray: Ray) -> Result<(), AllocError>
     ensures { OnOk result
         ((q : Point) → kept_fan fans.new q
         ≡ (if equal_points v.now q then with_ray (kept_fan fans.old v.now) ray else kept_fan fans.old q)) }
 {
-    let mut fan = SmallVec::from_slice(alloc, fan_in(fans, v))?;
-    let place = place_for(fan.as_slice(), &ray);
-    fan.insert(place, ray)?;
+    let fan = fan_with(alloc, fan_in(fans, v), ray)?;
     fans.insert(*v, fan)?;
     Ok(())
 }
