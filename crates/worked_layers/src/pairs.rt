@@ -40,13 +40,13 @@ fn finds_pairs_and_rules(rt: HostRuntime) -> Result<(), Fail> {
     for row in [
         TOUCHING, STRIPS, CROSS, WATERBOMB, FAN_1, FAN_2, FAN_3, FAN_4,
     ] {
-        let folded = shape(rt.alloc(), &row)?;
-        if folded.faces().len() <= 65536 {
-            let found = pairs(&rt, rt.alloc(), &folded)?;
+        let shape = shape(rt.alloc(), &row)?;
+        if shape.folded().faces().len() <= 65536 {
+            let found = pairs(&rt, rt.alloc(), &shape)?;
             assert!(rt; are_pairs(found.as_slice(), row.pairs));
-            let rules = crease_rules(rt.alloc(), &folded, row.kinds, found.as_slice())?;
+            let rules = crease_rules(rt.alloc(), shape.folded(), row.kinds, found.as_slice())?;
             assert!(rt; are_fixed(rules.as_slice(), row.fixed));
-            let circles = transitivity_rules(rt.alloc(), &folded, found.as_slice())?;
+            let circles = transitivity_rules(rt.alloc(), &shape, found.as_slice())?;
             assert!(rt; are_circles(circles.as_slice(), row.circles));
         }
     }

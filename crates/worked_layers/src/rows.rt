@@ -1,8 +1,9 @@
 //! Crease patterns and their layers.
 
 use crate::layers::text_of;
-use crate::patterns::{Crease, close_strips, on_square};
+use crate::patterns::{Crease, close_strips, equal_strips, on_square, wider_strips};
 use crease_model::Kind::{Mountain, Valley};
+use layer_rules::{InstanceFault, instance};
 use std::test::Fail;
 
 const ROWS: [(&[Crease], &str); 10] = [
@@ -80,6 +81,59 @@ fn patterns_have_these_layers(rt: HostRuntime) -> Result<(), Fail> {
         let pattern = on_square(rt.alloc(), creases)?;
         assert_eq!(rt; text_of(&rt, rt.alloc(), &pattern)?.as_str(), wanted);
     }
+    Ok(())
+}
+
+/// Why a pattern has no layers, and the text of it.
+const FAULTS: [(InstanceFault, &str); 7] = [
+    (
+        InstanceFault::TooManyFaces { faces: 257 },
+        "there are 257 faces",
+    ),
+    (
+        InstanceFault::Unreached { face: 2 },
+        "face 2 is not reached from face 1",
+    ),
+    (
+        InstanceFault::DoesNotClose { piece: 3 },
+        "the faces at piece 3 don't fold together",
+    ),
+    (
+        InstanceFault::FoldRange { face: 4 },
+        "a corner of folded face 4 is out of range",
+    ),
+    (
+        InstanceFault::TooManyLines { lines: 259 },
+        "there are 259 lines through folded sides",
+    ),
+    (
+        InstanceFault::TooManyPairs { pairs: 8256 },
+        "8256 pairs of faces lie on one another",
+    ),
+    (InstanceFault::Memory, "out of memory"),
+];
+
+#[test]
+fn faults_have_these_texts(rt: HostRuntime) -> Result<(), Fail> {
+    for (fault, wanted) in FAULTS {
+        assert_eq!(rt; format!(in rt.alloc(); "{fault}")?.as_str(), wanted);
+    }
+    Ok(())
+}
+
+#[test]
+fn there_are_200_lines_at_most(rt: HostRuntime) -> Result<(), Fail> {
+    let refused = text_of(&rt, rt.alloc(), &wider_strips(rt.alloc(), 255)?)?;
+    assert_eq!(rt; refused.as_str(), "refused TooManyLines { lines: 259 }");
+    Ok(())
+}
+
+#[test]
+fn forty_strips_have_all_their_rules(rt: HostRuntime) -> Result<(), Fail> {
+    let layers = instance(&rt, rt.alloc(), &equal_strips(rt.alloc(), 40)?)?;
+    assert_eq!(rt; layers.pairs().len(), 780);
+    // one for each three strips, and those of creases and tacos
+    assert!(rt; layers.rules()?.count() > 9880);
     Ok(())
 }
 

@@ -8,6 +8,7 @@ ghost use Rattle.isometry_map.specs.Folded.{is_convex_face};
 
 use crease_model::Kind;
 use isometry_map::{CreaseImage, Folded, FoldedFace, PointList};
+use layer_rules::Insides;
 use plane_geometry::{Dir, Point, Segment, direction, next_corner};
 use sign_rules::Sign;
 use std::alloc::{AllocError, Global};
@@ -150,7 +151,7 @@ fn crease(row: Crease) -> Result<CreaseImage, Fail> {
 }
 
 /// The shape of a row.
-pub(crate) fn shape(alloc: Global, row: &Row) -> Result<Folded, Fail> {
+pub(crate) fn shape(alloc: Global, row: &Row) -> Result<Insides, Fail> {
     let mut faces = Vec::new(alloc);
     for (turned, corners) in row.faces {
         faces.push(face(alloc, *turned, corners)?)?;
@@ -159,11 +160,11 @@ pub(crate) fn shape(alloc: Global, row: &Row) -> Result<Folded, Fail> {
     for c in row.creases {
         creases.push(crease(*c)?)?;
     }
-    Ok(Folded::new(faces, creases))
+    Ok(Insides::of(alloc, Folded::new(faces, creases))?)
 }
 
 /// So many squares, one on the other, without creases.
-pub(crate) fn stack(alloc: Global, squares: u32) -> Result<Folded, Fail>
+pub(crate) fn stack(alloc: Global, squares: u32) -> Result<Insides, Fail>
     ensures { IfOk result (λ f. length f.faces ≡ squares) }
 {
     let mut faces = Vec::new(alloc);
@@ -178,5 +179,5 @@ pub(crate) fn stack(alloc: Global, squares: u32) -> Result<Folded, Fail>
         ];
         faces.push(face(alloc, turned, &places)?)?;
     }
-    Ok(Folded::new(faces, Vec::new(alloc)))
+    Ok(Insides::of(alloc, Folded::new(faces, Vec::new(alloc)))?)
 }

@@ -57,10 +57,10 @@ const TORTILLAS: &[(Row, Tortillas)] = &[
 #[test]
 fn finds_tortilla_rules(rt: HostRuntime) -> Result<(), Fail> {
     for (row, wanted) in TORTILLAS {
-        let folded = shape(rt.alloc(), row)?;
-        if folded.faces().len() <= 65536 {
-            let found = pairs(&rt, rt.alloc(), &folded)?;
-            let rules = tortilla_rules(rt.alloc(), &folded, found.as_slice())?;
+        let shape = shape(rt.alloc(), row)?;
+        if shape.folded().faces().len() <= 65536 {
+            let found = pairs(&rt, rt.alloc(), &shape)?;
+            let rules = tortilla_rules(rt.alloc(), &shape, found.as_slice())?;
             assert!(rt; are_equal(rules.as_slice(), *wanted));
         }
     }
@@ -95,10 +95,10 @@ const TACOS: &[(Row, Tacos)] = &[
 #[test]
 fn finds_taco_rules(rt: HostRuntime) -> Result<(), Fail> {
     for (row, wanted) in TACOS {
-        let folded = shape(rt.alloc(), row)?;
-        if folded.faces().len() <= 65536 {
-            let found = pairs(&rt, rt.alloc(), &folded)?;
-            let rules = taco_rules(rt.alloc(), &folded, found.as_slice())?;
+        let shape = shape(rt.alloc(), row)?;
+        if shape.folded().faces().len() <= 65536 {
+            let found = pairs(&rt, rt.alloc(), &shape)?;
+            let rules = taco_rules(rt.alloc(), &shape, found.as_slice())?;
             assert!(rt; are_even(rules.as_slice(), *wanted));
         }
     }
@@ -144,10 +144,10 @@ const ORDERS: &[(Row, u32, u32)] = &[
 #[test]
 fn counts_layer_orders(rt: HostRuntime) -> Result<(), Fail> {
     for (row, lists, wanted) in ORDERS {
-        let folded = shape(rt.alloc(), row)?;
-        if folded.faces().len() <= 65536 {
-            let found = pairs(&rt, rt.alloc(), &folded)?;
-            let rules = order_rules(rt.alloc(), &folded, row.kinds, found.as_slice())?;
+        let shape = shape(rt.alloc(), row)?;
+        if shape.folded().faces().len() <= 65536 {
+            let found = pairs(&rt, rt.alloc(), &shape)?;
+            let rules = order_rules(rt.alloc(), &shape, row.kinds, found.as_slice())?;
             let count = unbroken(rt.alloc(), rules.as_slice(), found.len(), *lists)?;
             assert!(rt; count == *wanted);
         }

@@ -1,8 +1,12 @@
 //! The faults of vertices, worked by hand.
 
-use crate::patterns::{Crease, on_square};
+use crate::patterns::{Crease, on_square, round_the_middle};
 use crease_model::Kind::{Mountain, Valley};
+use crease_model::{Pattern, Sheet};
+use crease_store::add;
+use plane_geometry::Point;
 use std::test::Fail;
+use surd_number::Surd;
 use vertex_checks::{check, write_faults};
 
 const ROWS: [(&[Crease], &str); 7] = [
@@ -80,5 +84,23 @@ fn vertices_have_these_faults(rt: HostRuntime) -> Result<(), Fail> {
         write_faults(&mut out, faults.as_slice())?;
         assert_eq!(rt; out.as_slice(), wanted.as_bytes());
     }
+    Ok(())
+}
+
+#[test]
+fn a_vertex_has_room_for_sixteen_creases(rt: HostRuntime) -> Result<(), Fail> {
+    let alloc = rt.alloc();
+    let middle = Point {
+        x: Surd::whole(0),
+        y: Surd::whole(0),
+    };
+    let mut pattern = Pattern::empty(Sheet::square(alloc)?);
+    for end in round_the_middle()? {
+        pattern = add(alloc, &pattern, Mountain, &middle, &end)?;
+    }
+    let faults = check(alloc, &pattern)?;
+    let mut out = Vec::new(alloc);
+    write_faults(&mut out, faults.as_slice())?;
+    assert_eq!(rt; out.as_slice(), "0 0 maekawa 16 0\n".as_bytes());
     Ok(())
 }

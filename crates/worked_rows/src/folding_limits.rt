@@ -4,20 +4,20 @@ use crate::runs::{ROOM, answer, has_text};
 use std::alloc::{AllocError, Global};
 use std::test::Fail;
 
-// Adds a number of 128ths that is -25,600 or more.
-fn push_128ths(text: &mut String, parts: u32) -> Result<(), AllocError> {
-    let (sign, parts) = if parts < 25_600 {
-        ("-", 25_600_u32.saturating_sub(parts))
+// Adds a number of 256ths that is -51,200 or more.
+fn push_256ths(text: &mut String, parts: u32) -> Result<(), AllocError> {
+    let (sign, parts) = if parts < 51_200 {
+        ("-", 51_200_u32.saturating_sub(parts))
     } else {
-        ("", parts.saturating_sub(25_600))
+        ("", parts.saturating_sub(51_200))
     };
-    let whole = parts / 128;
-    let fraction = parts % 128 * 78_125;
-    write!(text, "{sign}{whole}.{fraction:07}")?;
+    let whole = parts / 256;
+    let fraction = parts % 256 * 390_625;
+    write!(text, "{sign}{whole}.{fraction:08}")?;
     Ok(())
 }
 
-// A block of upright mountains, and a job of it. They stand so many 128ths to the right of the left side: a step for each
+// A block of upright mountains, and a job of it. They stand so many 256ths to the right of the left side: a step for each
 // line, and for line k besides k * k of a second step.
 fn strips(alloc: Global, lines: u32, step: u32, growth: u32) -> Result<String, AllocError> {
     let mut script = String::new(alloc);
@@ -27,9 +27,9 @@ fn strips(alloc: Global, lines: u32, step: u32, growth: u32) -> Result<String, A
         let parts = line.saturating_mul(line).saturating_mul(growth);
         let parts = parts.saturating_add(line.saturating_mul(step));
         script.push_str("2 ")?;
-        push_128ths(&mut script, parts)?;
+        push_256ths(&mut script, parts)?;
         script.push_str(" -200 ")?;
-        push_128ths(&mut script, parts)?;
+        push_256ths(&mut script, parts)?;
         script.push_str(" 200\n")?;
     }
     script.push_str("end\nfold\n")?;
@@ -39,19 +39,27 @@ fn strips(alloc: Global, lines: u32, step: u32, growth: u32) -> Result<String, A
 /// So many lines, two steps, and the text of the replies.
 type Row = (u32, u32, u32, &'static str);
 
-const TOO_MUCH: [Row; 3] = [
+const TOO_MUCH: [Row; 4] = [
     // At -200 + k * (k + 1) / 128.
     (
         200,
-        1,
-        1,
+        2,
+        2,
         "version 1 pieces 200\n\
          refused toomanylines 204\n",
+    ),
+    // At -200 + k * (k + 1) / 256, as many as there may be for 256 faces.
+    (
+        255,
+        1,
+        1,
+        "version 1 pieces 255\n\
+         refused toomanylines 259\n",
     ),
     // A unit apart.
     (
         256,
-        128,
+        256,
         0,
         "version 1 pieces 256\n\
          refused toomanyfaces 257\n",
@@ -59,7 +67,7 @@ const TOO_MUCH: [Row; 3] = [
     // Two units apart: each two of the 129 strips are a pair.
     (
         128,
-        256,
+        512,
         0,
         "version 1 pieces 128\n\
          refused toomanypairs 8256\n",
@@ -75,6 +83,27 @@ fn too_much_is_not_folded(rt: HostRuntime) -> Result<(), Fail> {
         has_text(&rt, &sink, replies, "upright mountains");
         assert_eq!(rt; status, 1, "{lines}");
     }
+    Ok(())
+}
+
+// Each three of forty strips lie on one another: 9,880 rules of transitivity alone. They find room, and the search begins.
+#[test]
+fn forty_strips_are_searched(rt: HostRuntime) -> Result<(), Fail> {
+    let alloc = rt.alloc();
+    let mut script = strips(alloc, 39, 2560, 0)?;
+    script.push_str("budget 1\nanother 1\nwait 1\n")?;
+    let (status, sink) = answer(&rt, alloc, script.as_bytes(), ROOM, ROOM, &[], &[])?;
+    has_text(
+        &rt,
+        &sink,
+        "version 1 pieces 39\n\
+         job 1 version 1 faces 40 pairs 780\n\
+         budget 1\n\
+         asked 1\n\
+         job 1 version 1 paused\n",
+        "forty strips",
+    );
+    assert_eq!(rt; status, 0);
     Ok(())
 }
 
