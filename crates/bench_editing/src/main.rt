@@ -61,6 +61,7 @@ fn kind_number(kind: Kind) -> u64 {
         Kind::Mountain => 2,
         Kind::Valley => 3,
         Kind::Aux => 4,
+        Kind::Unassigned => 5,
     }
 }
 

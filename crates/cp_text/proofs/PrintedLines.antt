@@ -12,7 +12,7 @@ use Rattle.surd_number.specs.declared.Surd.{Surd}
 use Rattle.surd_number.specs.Value.{number_of}
 use Rattle.plane_geometry.specs.declared.Point.{Point}
 use Rattle.crease_model.specs.declared.Kind.{Kind}
-use Rattle.crease_model.specs.declared.Kind.TheVariants.{Edge, Mountain, Valley, Aux}
+use Rattle.crease_model.specs.declared.Kind.TheVariants.{Edge, Mountain, Valley, Aux, Unassigned}
 use Rattle.crease_model.specs.View.{PatternView}
 use Rattle.cp_text.specs.declared.line.CpLine.{CpLine}
 use Rattle.cp_text.specs.Words.{longest_line, is_blank, after_word, words_from, words_of, lines_from, lines_of, without_return, bare_lines}
@@ -204,6 +204,7 @@ kind_bytes Edge = at_least_one 43 49 (omega arith)
 kind_bytes Mountain = at_least_one 43 50 (omega arith)
 kind_bytes Valley = at_least_one 43 51 (omega arith)
 kind_bytes Aux = at_least_one 43 52 (omega arith)
+kind_bytes Unassigned = at_least_one 43 53 (omega arith)
 
 body-split : (d : ℕ) (t1 t2 t3 t4 : List ℕ)
     → d ∷ ((32 ∷ t1) ++ (32 ∷ t2)) ++ ((32 ∷ t3) ++ (32 ∷ t4)) ≡ (d ∷ [])
@@ -244,6 +245,7 @@ kind-reads Edge words = refl
 kind-reads Mountain words = refl
 kind-reads Valley words = refl
 kind-reads Aux words = refl
+kind-reads Unassigned words = refl
 
 numbers-read : (line : CpLine) → kind_line (Some line.kind) (line_numbers line) ≡ Ok line
 numbers-read line =

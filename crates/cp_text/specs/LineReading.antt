@@ -4,7 +4,7 @@ use Rattle.std.specs.Str.{bytes_eq}
 use Rattle.surd_number.specs.declared.Surd.{Surd}
 use Rattle.plane_geometry.specs.declared.Point.{Point}
 use Rattle.crease_model.specs.declared.Kind.{Kind}
-use Rattle.crease_model.specs.declared.Kind.TheVariants.{Edge, Mountain, Valley, Aux}
+use Rattle.crease_model.specs.declared.Kind.TheVariants.{Edge, Mountain, Valley, Aux, Unassigned}
 use Rattle.cp_text.specs.declared.number_reading.NumberFault.{NumberFault}
 use Rattle.cp_text.specs.declared.number_reading.NumberFault.TheVariants as number
 use Rattle.cp_text.specs.declared.line.CpLine.{CpLine}
@@ -55,6 +55,7 @@ kind_of word =
     else if bytes_eq word (codes "2") then Some Mountain
     else if bytes_eq word (codes "3") then Some Valley
     else if bytes_eq word (codes "4") then Some Aux
+    else if bytes_eq word (codes "5") then Some Unassigned
     else None
 
 abbrev pub line_with : Kind → Result Ends LineFault → Result CpLine LineFault

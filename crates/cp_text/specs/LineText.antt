@@ -4,7 +4,7 @@ use Rattle.surd_number.specs.declared.Surd.{Surd}
 use Rattle.surd_number.specs.Value.{number_of}
 use Rattle.plane_geometry.specs.declared.Point.{Point}
 use Rattle.crease_model.specs.declared.Kind.{Kind}
-use Rattle.crease_model.specs.declared.Kind.TheVariants.{Edge, Mountain, Valley, Aux}
+use Rattle.crease_model.specs.declared.Kind.TheVariants.{Edge, Mountain, Valley, Aux, Unassigned}
 use Rattle.crease_model.specs.View.{PatternView}
 use Rattle.crease_model.specs.OwnLines.{PlainLine, own_lines}
 use Rattle.cp_text.specs.declared.line.CpLine.{CpLine}
@@ -16,6 +16,7 @@ kind_digit Edge = 49
 kind_digit Mountain = 50
 kind_digit Valley = 51
 kind_digit Aux = 52
+kind_digit Unassigned = 53
 
 -- a space and a number
 abbrev pub coordinate_text : Surd → List ℕ

@@ -78,6 +78,8 @@ pub fn read_kind(word: &[u8]) -> Option<Kind>
         Some(Kind::Valley)
     } else if word == b"4".as_slice() {
         Some(Kind::Aux)
+    } else if word == b"5".as_slice() {
+        Some(Kind::Unassigned)
     } else {
         None
     }

@@ -24,6 +24,7 @@ fn kind_digit(kind: Kind) -> u8
         Kind::Mountain => b'2',
         Kind::Valley => b'3',
         Kind::Aux => b'4',
+        Kind::Unassigned => b'5',
     }
 }
 

@@ -7,23 +7,24 @@ use Rattle.plane_geometry.specs.Order.{is_before}
 use Rattle.plane_geometry.specs.Stretch.{Stretch, MeetAtEnds}
 use Rattle.plane_geometry.specs.SegmentView.{stretch_of, lesser_end, greater_end}
 use Rattle.crease_model.specs.declared.Kind.{Kind}
-use Rattle.crease_model.specs.declared.Kind.TheVariants.{Edge, Mountain, Valley, Aux}
+use Rattle.crease_model.specs.declared.Kind.TheVariants.{Edge, Mountain, Valley, Aux, Unassigned}
 use Rattle.crease_model.specs.declared.Piece.{Piece}
 use Rattle.crease_model.specs.Sheet.{place_of, is_outside, is_within_side}
 use Rattle.crease_model.specs.View.{PatternView}
 
--- a mountain or a valley
+-- a mountain, a valley or an unassigned crease
 abbrev pub is_crease_kind : Kind → Bool
 is_crease_kind Edge = false
 is_crease_kind Mountain = true
 is_crease_kind Valley = true
 is_crease_kind Aux = false
+is_crease_kind Unassigned = true
 
 -- no end is outside the sheet
 abbrev pub is_on_sheet : List Point → Stretch → Bool
 is_on_sheet corners s = not (is_outside (place_of corners s.from)) && not (is_outside (place_of corners s.to))
 
--- a mountain or a valley with no end outside, and not within one side
+-- a crease with no end outside, and not within one side
 abbrev pub is_crease : List Point → Piece → Bool
 is_crease corners p =
     is_crease_kind p.kind

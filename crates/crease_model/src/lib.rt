@@ -21,13 +21,15 @@ use std::marker::Model;
 use surd_number::Surd;
 use thiserror::Error;
 
-/// The kind of a line: an edge of the sheet, a mountain or a valley crease, or an auxiliary line.
+/// The kind of a line: an edge of the sheet, a mountain, a valley or an unassigned crease, or an auxiliary line. An
+/// unassigned crease folds, as a mountain or as a valley.
 #[derive(Clone, Copy, Debug, PartialEq, Eq)]
 pub enum Kind {
     Edge,
     Mountain,
     Valley,
     Aux,
+    Unassigned,
 }
 
 impl Kind {
@@ -41,7 +43,8 @@ impl Kind {
             (Kind::Edge, Kind::Edge)
             | (Kind::Mountain, Kind::Mountain)
             | (Kind::Valley, Kind::Valley)
-            | (Kind::Aux, Kind::Aux) => true,
+            | (Kind::Aux, Kind::Aux)
+            | (Kind::Unassigned, Kind::Unassigned) => true,
             _ => false,
         }
     }

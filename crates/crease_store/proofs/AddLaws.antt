@@ -7,7 +7,7 @@ use Rattle.plane_geometry.specs.declared.Segment.{Segment}
 use Rattle.plane_geometry.specs.SegmentOf.{segment_of}
 use Rattle.plane_geometry.specs.SegmentView.{stretch_of}
 use Rattle.crease_model.specs.declared.Kind.{Kind}
-use Rattle.crease_model.specs.declared.Kind.TheVariants.{Edge, Mountain, Valley, Aux}
+use Rattle.crease_model.specs.declared.Kind.TheVariants.{Edge, Mountain, Valley, Aux, Unassigned}
 use Rattle.crease_model.specs.declared.Piece.{Piece}
 use Rattle.crease_model.specs.View.{PatternView}
 use Rattle.crease_model.specs.Sheet.{is_within_side}
@@ -102,6 +102,7 @@ module _ (old : PatternView) (rules : IsPattern old) (new : PatternView) where
   accepted Mountain s e = crease_accepted Mountain s e
   accepted Valley s e = crease_accepted Valley s e
   accepted Aux s e = line_accepted s e
+  accepted Unassigned s e = crease_accepted Unassigned s e
 
   by_segment : (kind : Kind) (from to : Point) (o : Option Segment) → segment_of from to ≡ o → added_between old kind from to o ≡ Ok new → IsAddedBetween old kind from to new
   by_segment kind from to None e h = err_ok (segment_refusal from to) new h
@@ -138,6 +139,7 @@ added_is_one old Edge s new other h k = h ∙ sym k
 added_is_one old Mountain s new other h k = crease_is_one old Mountain s new other h k
 added_is_one old Valley s new other h k = crease_is_one old Valley s new other h k
 added_is_one old Aux s new other h k = line_is_one old s new other h k
+added_is_one old Unassigned s new other h k = crease_is_one old Unassigned s new other h k
 
 -- ---- meetings
 
@@ -146,3 +148,4 @@ added_meet old Edge s new rules h = subst (λ (p : PatternView). AllMeetAtEnds p
 added_meet old Mountain s new rules h = crease_meets old.pieces Mountain s rules.meetings new.pieces h.order h.pieces
 added_meet old Valley s new rules h = crease_meets old.pieces Valley s rules.meetings new.pieces h.order h.pieces
 added_meet old Aux s new rules h = subst AllMeetAtEnds (sym h.pieces) rules.meetings
+added_meet old Unassigned s new rules h = crease_meets old.pieces Unassigned s rules.meetings new.pieces h.order h.pieces

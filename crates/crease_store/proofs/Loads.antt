@@ -8,7 +8,7 @@ use Rattle.plane_geometry.specs.declared.Segment.{Segment}
 use Rattle.plane_geometry.specs.SegmentOf.{segment_of}
 use Rattle.plane_geometry.specs.SegmentView.{stretch_of}
 use Rattle.crease_model.specs.declared.Kind.{Kind}
-use Rattle.crease_model.specs.declared.Kind.TheVariants.{Edge, Mountain, Valley, Aux}
+use Rattle.crease_model.specs.declared.Kind.TheVariants.{Edge, Mountain, Valley, Aux, Unassigned}
 use Rattle.crease_model.specs.Sheet.{is_sheet, is_within_side}
 use Rattle.crease_model.specs.View.{PatternView, empty_on}
 use Rattle.crease_model.specs.Rules.{IsPattern, is_crease_kind, is_on_sheet, most_pieces, size_of}
@@ -77,6 +77,7 @@ module _ (old : PatternView) (rules : IsPattern old) (sheet : is_sheet old.corne
   segment_kept Mountain from to (Some s) e = crease_kept Mountain s refl e
   segment_kept Valley from to (Some s) e = crease_kept Valley s refl e
   segment_kept Aux from to (Some s) e = line_kept s e
+  segment_kept Unassigned from to (Some s) e = crease_kept Unassigned s refl e
 
   add_kept : (kind : Kind) (from to : Point) → add_of old kind from to ≡ Ok new → IsKept old new
   unfolding add_of

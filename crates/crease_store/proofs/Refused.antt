@@ -22,7 +22,7 @@ use Rattle.plane_geometry.specs.SegmentLaws.{point_is, segment_of-ends, no_direc
 use Rattle.plane_geometry.specs.SideLaws.{order_of, order_self, order_turned}
 use Rattle.plane_geometry.specs.StretchLaws.{before_is}
 use Rattle.crease_model.specs.declared.Kind.{Kind}
-use Rattle.crease_model.specs.declared.Kind.TheVariants.{Edge, Mountain, Valley, Aux}
+use Rattle.crease_model.specs.declared.Kind.TheVariants.{Edge, Mountain, Valley, Aux, Unassigned}
 use Rattle.crease_model.specs.PartLaws.{in_order, turned, segment_ends}
 use Rattle.crease_model.specs.Sheet.{is_within_side}
 use Rattle.crease_model.specs.View.{PatternView}
@@ -195,12 +195,14 @@ off_directions p q none n few =
 pub added_as_crease : (old : PatternView) (kind : Kind) (s : Segment) → is_crease_kind kind ≡ true → segment_added old kind s ≡ crease_added old kind s
 added_as_crease old Mountain s e = refl
 added_as_crease old Valley s e = refl
+added_as_crease old Unassigned s e = refl
 added_as_crease old Edge s e = absurd (false≢true e)
 added_as_crease old Aux s e = absurd (false≢true e)
 
 crease_in : (old : PatternView) (kind : Kind) (s : Segment) (new : PatternView) → is_crease_kind kind ≡ true → IsCreaseAdded old kind s new → IsAdded old kind s new
 crease_in old Mountain s new e added = added
 crease_in old Valley s new e added = added
+crease_in old Unassigned s new e added = added
 crease_in old Edge s new e added = absurd (false≢true e)
 crease_in old Aux s new e added = absurd (false≢true e)
 
@@ -268,6 +270,7 @@ module _ (old : PatternView) (rules : IsPattern old) (from to : Point) where
   by_segment Mountain refusal (Some s) e h = crease_refused Mountain s refusal e refl h
   by_segment Valley refusal (Some s) e h = crease_refused Valley s refusal e refl h
   by_segment Aux refusal (Some s) e h = line_refused s refusal e h
+  by_segment Unassigned refusal (Some s) e h = crease_refused Unassigned s refusal e refl h
 
   says : (kind : Kind) (refusal : StoreRefusal) → add_of old kind from to ≡ Err refusal → IsRefusedFor old kind from to refusal
   unfolding add_of
@@ -288,6 +291,7 @@ module _ (old : PatternView) (rules : IsPattern old) (from to : Point) where
   sheet_missed Mountain s differs a = ap (λ b. cond (not b) (Err OutsideSheet) (cond (is_within_side old.corners (stretch_of s)) (Err OnBorder) (crease_cut old Mountain s (cuts_of s old.pieces)))) a
   sheet_missed Valley s differs a = ap (λ b. cond (not b) (Err OutsideSheet) (cond (is_within_side old.corners (stretch_of s)) (Err OnBorder) (crease_cut old Valley s (cuts_of s old.pieces)))) a
   sheet_missed Aux s differs a = ap (λ b. cond (not b) (Err OutsideSheet) (if_it_fits (with_line old s))) a
+  sheet_missed Unassigned s differs a = ap (λ b. cond (not b) (Err OutsideSheet) (cond (is_within_side old.corners (stretch_of s)) (Err OnBorder) (crease_cut old Unassigned s (cuts_of s old.pieces)))) a
 
   crease_on : (kind : Kind) (s : Segment) (b : Bool) → is_on_sheet old.corners (stretch_of s) ≡ true → is_within_side old.corners (stretch_of s) ≡ b
       → crease_added old kind s ≡ cond b (Err OnBorder) (crease_cut old kind s (cuts_of s old.pieces))

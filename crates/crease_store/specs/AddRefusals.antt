@@ -32,7 +32,7 @@ abbrev pub IsOutsideSheet : PatternView → Kind → Point → Point → Type 0
 IsOutsideSheet old kind from to =
     (kind ≢ Edge) × HasSegment from to (λ s. IsFalse (is_on_sheet old.corners (stretch_of s)))
 
--- a mountain or a valley on the sheet and within one side of it
+-- a crease on the sheet and within one side of it
 abbrev pub IsCreaseOnBorder : PatternView → Kind → Point → Point → Type 0
 IsCreaseOnBorder old kind from to =
     IsTrue (is_crease_kind kind)

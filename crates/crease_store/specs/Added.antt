@@ -8,7 +8,7 @@ use Rattle.plane_geometry.specs.SegmentOf.{segment_of}
 use Rattle.plane_geometry.specs.SegmentView.{stretch_of}
 use Rattle.plane_geometry.specs.Stretch.{Stretch, is_between, is_end, is_on}
 use Rattle.crease_model.specs.declared.Kind.{Kind}
-use Rattle.crease_model.specs.declared.Kind.TheVariants.{Edge, Mountain, Valley, Aux}
+use Rattle.crease_model.specs.declared.Kind.TheVariants.{Edge, Mountain, Valley, Aux, Unassigned}
 use Rattle.crease_model.specs.declared.Piece.{Piece}
 use Rattle.crease_model.specs.Rules.{is_ascending, segments_of}
 use Rattle.crease_model.specs.View.{PatternView}
@@ -65,6 +65,7 @@ IsAdded old Edge s new = new ≡ old
 IsAdded old Mountain s new = IsCreaseAdded old Mountain s new
 IsAdded old Valley s new = IsCreaseAdded old Valley s new
 IsAdded old Aux s new = IsLineAdded old s new
+IsAdded old Unassigned s new = IsCreaseAdded old Unassigned s new
 
 -- the same with the segment between two points
 pub record IsAddedBetween (old : PatternView) (kind : Kind) (from to : Point) (new : PatternView)

@@ -9,7 +9,7 @@ use Rattle.plane_geometry.specs.SegmentOf.{segment_of}
 use Rattle.plane_geometry.specs.SegmentView.{stretch_of}
 use Rattle.plane_geometry.specs.Stretch.{Stretch}
 use Rattle.crease_model.specs.declared.Kind.{Kind}
-use Rattle.crease_model.specs.declared.Kind.TheVariants.{Edge, Mountain, Valley, Aux}
+use Rattle.crease_model.specs.declared.Kind.TheVariants.{Edge, Mountain, Valley, Aux, Unassigned}
 use Rattle.crease_model.specs.declared.Piece.{Piece}
 use Rattle.crease_model.specs.View.{PatternView}
 use Rattle.crease_model.specs.Sheet.{is_within_side}
@@ -94,6 +94,7 @@ segment_added pattern Edge s = edge_added pattern s
 segment_added pattern Mountain s = crease_added pattern Mountain s
 segment_added pattern Valley s = crease_added pattern Valley s
 segment_added pattern Aux s = line_added pattern s
+segment_added pattern Unassigned s = crease_added pattern Unassigned s
 
 -- why there is no segment between two points
 abbrev pub segment_refusal : Point → Point → StoreRefusal

@@ -283,7 +283,7 @@ fn add_segment(
 {
     match kind {
         Kind::Edge => add_edge(pattern, s),
-        Kind::Mountain | Kind::Valley => add_crease(alloc, pattern, kind, s),
+        Kind::Mountain | Kind::Valley | Kind::Unassigned => add_crease(alloc, pattern, kind, s),
         Kind::Aux => add_line(pattern, s),
     }
 }

@@ -185,7 +185,7 @@ fn set_between(
     }
 }
 
-/// The pattern with the piece between two points, in either order, turned into a mountain or a valley.
+/// The pattern with the piece between two points, in either order, turned into a crease of another kind.
 pub fn set_kind(
     alloc: Global,
     pattern: &Pattern,

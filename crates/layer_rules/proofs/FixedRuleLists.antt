@@ -7,7 +7,7 @@ use Rattle.std.proofs.lemmas.Bool.{and_parts, and_from, true≢false, false≢tr
 use Rattle.std.proofs.lemmas.List.{append-nil, drop_all}
 use Rattle.std.proofs.lemmas.List.Elements.{Contains-append_left, Contains-append_right, Contains-append_cases}
 use Rattle.crease_model.specs.declared.Kind.{Kind}
-use Rattle.crease_model.specs.declared.Kind.TheVariants.{Edge, Mountain, Valley, Aux}
+use Rattle.crease_model.specs.declared.Kind.TheVariants.{Edge, Mountain, Valley, Aux, Unassigned}
 use Rattle.isometry_map.specs.declared.folded.CreaseImage.{CreaseImage}
 use Rattle.isometry_map.specs.Folded.{FoldedView}
 use Rattle.sign_rules.specs.declared.sign.Sign.{Sign}
@@ -210,11 +210,13 @@ sign_cause (Some false) (Some false) k s e = absurd (none_is_not_some s e)
 sign_cause (Some false) (Some true) None s e = absurd (none_is_not_some s e)
 sign_cause (Some false) (Some true) (Some Edge) s e = absurd (none_is_not_some s e)
 sign_cause (Some false) (Some true) (Some Aux) s e = absurd (none_is_not_some s e)
+sign_cause (Some false) (Some true) (Some Unassigned) s e = absurd (none_is_not_some s e)
 sign_cause (Some true) None k s e = absurd (none_is_not_some s e)
 sign_cause (Some true) (Some true) k s e = absurd (none_is_not_some s e)
 sign_cause (Some true) (Some false) None s e = absurd (none_is_not_some s e)
 sign_cause (Some true) (Some false) (Some Edge) s e = absurd (none_is_not_some s e)
 sign_cause (Some true) (Some false) (Some Aux) s e = absurd (none_is_not_some s e)
+sign_cause (Some true) (Some false) (Some Unassigned) s e = absurd (none_is_not_some s e)
 
 abbrev pub sign_when : Bool → Sign
 sign_when true = Over
@@ -230,6 +232,7 @@ sign_first Edge x e = absurd (none_is_not_some x e)
 sign_first Mountain x e = ap (λ (b : Bool). Some (sign_when b)) (some_is true x e)
 sign_first Valley x e = ap (λ (b : Bool). Some (sign_when b)) (some_is false x e)
 sign_first Aux x e = absurd (none_is_not_some x e)
+sign_first Unassigned x e = absurd (none_is_not_some x e)
 
 sign_second : (kind : Kind) (x : Bool) → front_is_above kind ≡ Some x
     → sign_for (Some true) (Some false) (Some kind) ≡ Some (sign_when (not x))
@@ -237,6 +240,7 @@ sign_second Edge x e = absurd (none_is_not_some x e)
 sign_second Mountain x e = ap (λ (b : Bool). Some (sign_when (not b))) (some_is true x e)
 sign_second Valley x e = ap (λ (b : Bool). Some (sign_when (not b))) (some_is false x e)
 sign_second Aux x e = absurd (none_is_not_some x e)
+sign_second Unassigned x e = absurd (none_is_not_some x e)
 
 shared_by_both : (f g : ℕ) (c : CreaseImage) → IsTrue (is_shared_by f g c) → IsTrue (is_shared_by g f c)
 shared_by_both f g c h = turned_over (c.a == f && c.b == g) (c.a == g && c.b == f) h

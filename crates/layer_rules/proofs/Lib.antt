@@ -20,3 +20,4 @@ mod Beside
 mod OrderRules
 mod RulesInOrder
 mod Layerings
+mod Assignments

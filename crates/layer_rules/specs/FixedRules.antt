@@ -2,7 +2,7 @@
 use Rattle.std.specs.Prelude.{ℕ, ◌+◌, Bool, true, false, List, [], ◌∷◌, ◌++◌, Option, None, Some, if◌then◌else◌}
 use Rattle.std.specs.List.{list_any}
 use Rattle.crease_model.specs.declared.Kind.{Kind}
-use Rattle.crease_model.specs.declared.Kind.TheVariants.{Mountain, Valley}
+use Rattle.crease_model.specs.declared.Kind.TheVariants.{Edge, Mountain, Valley, Aux, Unassigned}
 use Rattle.isometry_map.specs.declared.folded.FoldedFace.{FoldedFace}
 use Rattle.isometry_map.specs.declared.folded.CreaseImage.{CreaseImage}
 use Rattle.isometry_map.specs.Folded.{FoldedView}
@@ -13,12 +13,24 @@ use Rattle.sign_rules.specs.declared.rule.Rule.TheVariants.{Fixed}
 use Rattle.layer_rules.specs.declared.face_pairs.FacePair.{FacePair}
 use Rattle.layer_rules.specs.Faces.{numbered, turned_at, is_shared_by}
 
+-- the sign of a face with its front up and the turned one across a crease of this kind
+abbrev pub front_sign : Kind → Option Sign
+front_sign Edge = None
+front_sign Mountain = Some Over
+front_sign Valley = Some Under
+front_sign Aux = None
+front_sign Unassigned = None
+
+-- the sign of two faces in the other order
+abbrev pub sign_turned : Option Sign → Option Sign
+sign_turned None = None
+sign_turned (Some Over) = Some Under
+sign_turned (Some Under) = Some Over
+
 -- by which of two faces are turned, and by the kind of a crease between them: the sign of their pair
 abbrev pub sign_for : Option Bool → Option Bool → Option Kind → Option Sign
-sign_for (Some false) (Some true) (Some Mountain) = Some Over
-sign_for (Some false) (Some true) (Some Valley) = Some Under
-sign_for (Some true) (Some false) (Some Mountain) = Some Under
-sign_for (Some true) (Some false) (Some Valley) = Some Over
+sign_for (Some false) (Some true) (Some kind) = front_sign kind
+sign_for (Some true) (Some false) (Some kind) = sign_turned (front_sign kind)
 sign_for _ _ _ = None
 
 -- the sign that the crease gives the pair, if it lies between its faces

@@ -18,3 +18,5 @@ pub mod TacoTurns
 pub mod CreaseLines
 pub mod LayerOrder
 pub mod Layering
+pub mod Assignment
+pub mod Laws

@@ -1,4 +1,5 @@
 //! The crease condition as rules: a face with its front up is above the one across a mountain, below that across a valley.
+//! An unassigned crease makes no rule.
 
 ghost use Rattle.std.specs.Prelude.{◌≡◌, ◌↔◌, ◌*◌, ◌≤◌, ◌++◌, List, length, IfOk, OnOk, IsTrue};
 ghost use Rattle.std.specs.List.{list_any};
@@ -7,7 +8,7 @@ ghost use Rattle.sign_rules.specs.Rules.{are_rules_on, is_broken};
 ghost use Rattle.layer_rules.specs.Faces.{numbered, turned_at};
 ghost use Rattle.layer_rules.specs.FacePairs.{IsPairList, most_pairs};
 ghost use Rattle.layer_rules.specs.CreaseCondition.{BreaksCreaseCondition};
-ghost use Rattle.layer_rules.specs.FixedRules.{sign_for, sign_across, is_given, is_wanted, fixed_rule, fixed_rules};
+ghost use Rattle.layer_rules.specs.FixedRules.{front_sign, sign_turned, sign_for, sign_across, is_given, is_wanted, fixed_rule, fixed_rules};
 ghost use Rattle.layer_rules.specs.RuleLists.{AreDifferent};
 
 use crate::face_pairs::{FacePair, is_shared};
@@ -117,15 +118,35 @@ fn sign_across(
     )
 }
 
+/// The sign of a face with its front up and the turned one across a crease of this kind.
+fn front_sign(kind: Kind) -> Option<Sign>
+    ensures { result ≡ front_sign kind }
+{
+    match kind {
+        Kind::Mountain => Some(Sign::Over),
+        Kind::Valley => Some(Sign::Under),
+        Kind::Edge | Kind::Aux | Kind::Unassigned => None,
+    }
+}
+
+/// The sign of two faces in the other order.
+fn sign_turned(sign: Option<Sign>) -> Option<Sign>
+    ensures { result ≡ sign_turned sign }
+{
+    match sign {
+        Some(Sign::Over) => Some(Sign::Under),
+        Some(Sign::Under) => Some(Sign::Over),
+        None => None,
+    }
+}
+
 /// The sign of a pair with a crease of this kind, by which of its faces are turned.
 fn sign_for(first: Option<bool>, second: Option<bool>, kind: Option<Kind>) -> Option<Sign>
     ensures { result ≡ sign_for first second kind }
 {
     match (first, second, kind) {
-        (Some(false), Some(true), Some(Kind::Mountain)) => Some(Sign::Over),
-        (Some(false), Some(true), Some(Kind::Valley)) => Some(Sign::Under),
-        (Some(true), Some(false), Some(Kind::Mountain)) => Some(Sign::Under),
-        (Some(true), Some(false), Some(Kind::Valley)) => Some(Sign::Over),
+        (Some(false), Some(true), Some(kind)) => front_sign(kind),
+        (Some(true), Some(false), Some(kind)) => sign_turned(front_sign(kind)),
         _ => None,
     }
 }

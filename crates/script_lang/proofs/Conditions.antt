@@ -5,7 +5,7 @@ use Rattle.std.specs.Str.{bytes_eq}
 use Rattle.std.specs.declared.result.Result.{Result}
 use Rattle.plane_geometry.specs.declared.Point.{Point}
 use Rattle.crease_model.specs.declared.Kind.{Kind}
-use Rattle.crease_model.specs.declared.Kind.TheVariants.{Edge, Mountain, Valley, Aux}
+use Rattle.crease_model.specs.declared.Kind.TheVariants.{Edge, Mountain, Valley, Aux, Unassigned}
 use Rattle.cp_text.specs.declared.line.CpLine.{CpLine}
 use Rattle.cp_text.specs.declared.line.Ends.{Ends}
 use Rattle.cp_text.specs.declared.line.LineFault.{LineFault}
@@ -46,6 +46,8 @@ set (Some Mountain) (Err fault) = refl
 set (Some Valley) (Ok ends) = refl
 set (Some Valley) (Err fault) = refl
 set (Some Aux) ends = refl
+set (Some Unassigned) (Ok ends) = refl
+set (Some Unassigned) (Err fault) = refl
 
 set_line : (words : List (List ℕ)) → Meets (set_words words)
 set_line [] = refl

@@ -35,7 +35,7 @@ abbrev pub set_command : Kind → Result Ends LineFault → Command
 set_command kind (Ok ends) = Set kind ends.from ends.to
 set_command kind (Err fault) = Bad fault
 
--- a piece becomes a mountain or a valley
+-- a piece becomes a mountain, a valley or an unassigned crease
 abbrev pub set_kind_command : Option Kind → Result Ends LineFault → Command
 set_kind_command None ends = Bad BadKind
 set_kind_command (Some kind) ends = if is_crease_kind kind then set_command kind ends else Bad BadKind

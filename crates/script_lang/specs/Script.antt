@@ -19,7 +19,7 @@ use Rattle.script_lang.specs.Judged.{least_budget, most_budget, command_of}
 abbrev pub is_budget : ℕ → Bool
 is_budget n = nat_le least_budget n && nat_le n most_budget
 
--- what each command of a script meets: it sets a mountain or a valley, or a budget within its limits
+-- what each command of a script meets: the kind that it sets is one of creases, and the budget is within its limits
 abbrev pub meets_condition : Command → Bool
 meets_condition (Set kind from to) = is_crease_kind kind
 meets_condition (Budget budget) = is_budget budget

@@ -13,7 +13,7 @@ pub enum Command {
     Add { kind: Kind, from: Point, to: Point },
     /// The piece or auxiliary line with these ends goes.
     Delete { from: Point, to: Point },
-    /// The piece with these ends becomes a mountain or a valley.
+    /// The piece with these ends becomes a mountain, a valley or an unassigned crease.
     Set { kind: Kind, from: Point, to: Point },
     /// Pieces that go on from one another become one.
     Merge,

@@ -94,7 +94,8 @@ fn judge_kind(kind: Option<Kind>, words: &[u8]) -> Command
     match kind {
         Some(Kind::Mountain) => set_ends(Kind::Mountain, words),
         Some(Kind::Valley) => set_ends(Kind::Valley, words),
-        _ => bad(LineFault::BadKind),
+        Some(Kind::Unassigned) => set_ends(Kind::Unassigned, words),
+        Some(Kind::Edge) | Some(Kind::Aux) | None => bad(LineFault::BadKind),
     }
 }
 

@@ -33,7 +33,7 @@ impl Model for Commands {
 }
 
 impl Commands {
-    /// Each command that sets a kind sets a mountain or a valley.
+    /// Each command that sets a kind sets a kind of crease.
     pub fn of(list: Vec<Command>) -> Commands
         requires { IsTrue (list_all meets_condition list.items) }
         ensures { result ≡ list.items }

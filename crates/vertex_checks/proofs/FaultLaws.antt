@@ -2,14 +2,14 @@
 use Rattle.std.proofs.Common.{◌≡◌, ◌↔◌, ◌≢◌, ℕ, ◌+◌, ◌-◌, ◌<◌, ◌≤◌, true, false, ◌&&◌, eqb, ltb, inl, inr, List, [], ◌∷◌, ◌++◌, length, flat_map, refl, sym, ap, ap₂, subst, ◌∙◌, arith}
 use Rattle.std.specs.Prelude.{Contains}
 use Rattle.std.specs.List.{range_with_len}
-use Rattle.std.proofs.lemmas.Bool.{cond_both, cond-true, cond-false, and_parts, and_from, or_parts, or_from, eq-eqb, eqb-true, eqb-false, ne_eqb, ltb-true, lt-ltb, ltb-false, le-ltb, both_ways, false_from_ne_true}
+use Rattle.std.proofs.lemmas.Bool.{cond_both, cond-true, cond-false, and_parts, and_from, or_left, or_right, or_cases, eq-eqb, eqb-true, ltb-true, lt-ltb, ltb-false, le-ltb, both_ways, false_from_ne_true}
 use Rattle.plane_geometry.specs.declared.Point.{Point}
 use Rattle.plane_geometry.specs.declared.Dir.{Dir}
-use Rattle.crease_model.specs.declared.Kind.TheVariants.{Mountain, Valley}
+use Rattle.crease_model.specs.declared.Kind.TheVariants.{Mountain, Valley, Unassigned}
 use Rattle.crease_model.specs.declared.Piece.{Piece}
 use Rattle.crease_model.specs.View.{PatternView}
 use Rattle.crease_model.specs.Rules.{IsPattern, IsEndOf}
-use Rattle.line_split.specs.MemberLaws.{Member, member, contained, member_left, member_right, member_either}
+use Rattle.line_split.specs.MemberLaws.{Member, member, contained, member_left, member_right, member_either, any_member, member_any}
 use Rattle.vertex_checks.specs.declared.fans.Ray.{Ray}
 use Rattle.vertex_checks.specs.declared.faults.LocalFault.{LocalFault}
 use Rattle.vertex_checks.specs.declared.faults.LocalFault.TheVariants.{Kawasaki, Maekawa, BigLittleBig}
@@ -17,13 +17,42 @@ use Rattle.vertex_checks.specs.declared.faults.VertexFault.{VertexFault}
 use Rattle.vertex_checks.specs.Vertices.{IsInnerEnd, vertices_of}
 use Rattle.vertex_checks.specs.Fan.{ray_of, Leaves, IsFan, fan_of}
 use Rattle.plane_geometry.specs.SegmentView.{direction_number}
-use Rattle.crease_model.specs.Kind.{is_same_kind}
-use Rattle.vertex_checks.specs.Sectors.{ray_in, around, sector_at, reflected_from, ComesRound, count_of_kind, IsUnbalanced, IsSmallSector}
-use Rattle.vertex_checks.specs.Faults.{HasSmallSector, Breaks, IsFault, KawasakiIsByAngles, comes_round, kawasaki_faults, differ_by_two, maekawa_faults, is_small_sector, little_fault_at, little_faults, fan_faults, vertex_fault, faults_at, faults_of}
+use Rattle.vertex_checks.specs.Sectors.{ray_in, around, sector_at, reflected_from, ComesRound, count_of_kind, DifferByTwo, IsUnbalanced, fold_one_way, IsSmallSector}
+use Rattle.vertex_checks.specs.Faults.{HasSmallSector, Breaks, IsFault, KawasakiIsByAngles, comes_round, kawasaki_faults, differ_by_two, balances, can_balance, maekawa_unless_balanced, maekawa_faults, is_small_sector, little_fault_at, little_faults, fan_faults, vertex_fault, faults_at, faults_of}
 use Rattle.vertex_checks.proofs.SortedLists.{member_map, map_member, member_flat, flat_member, range_member, member_range}
 use Rattle.vertex_checks.proofs.FanLaws.{fan_is, one_fan}
 use Rattle.vertex_checks.proofs.KawasakiLaws.{round_exactly}
 use Rattle.vertex_checks.proofs.VertexLaws.{vertices_are_inner_ends}
+
+-- ---- numbers of mountains and valleys
+
+differ_words : (m v : ℕ) → differ_by_two m v ≡ true → DifferByTwo m v
+differ_words m v e =
+    elim (or_cases (eqb m (v + 2)) (eqb v (m + 2)) e) [
+      | inl h ↦ inl (eqb-true m (v + 2) h)
+      | inr h ↦ inr (eqb-true v (m + 2) h)
+    ]
+
+differ_test : (m v : ℕ) → DifferByTwo m v → differ_by_two m v ≡ true
+differ_test m v (inl h) = or_left (eqb m (v + 2)) (eqb v (m + 2)) (eq-eqb m (v + 2) h)
+differ_test m v (inr h) = or_right (eqb m (v + 2)) (eqb v (m + 2)) (eq-eqb v (m + 2) h)
+
+-- some number of the unassigned creases makes them differ by two
+some_balances : (m v u : ℕ) → can_balance m v u ≡ true
+    → (x : ℕ) × (x ≤ u) × DifferByTwo (m + x) (v + (u - x))
+some_balances m v u e =
+    let w = any_member (balances m v u) (range_with_len 0 (u + 1)) e in
+    let x = w.0 in
+    let few = (range_member 0 (u + 1) x w.1).1 in
+    (x, omega (arith, few), differ_words (m + x) (v + (u - x)) w.2)
+
+none_balances : (m v u : ℕ) → can_balance m v u ≡ false
+    → (x : ℕ) → x ≤ u → ¬ DifferByTwo (m + x) (v + (u - x))
+none_balances m v u e x few differ =
+    both_ways (can_balance m v u) e
+    (member_any (balances m v u) (range_with_len 0 (u + 1)) x
+    (member_range 0 (u + 1) x (omega arith) (omega (arith, few)))
+    (differ_test (m + x) (v + (u - x)) differ))
 
 -- ---- each part of the list by itself
 
@@ -42,11 +71,16 @@ module _ (fan : List Ray) where
   abbrev valleys : ℕ
   valleys = count_of_kind Valley fan
 
-  pub maekawa_only : (f : LocalFault) → Member (maekawa_faults fan) f
-      → (differ_by_two mountains valleys ≡ false) × (f ≡ Maekawa mountains valleys)
+  abbrev unassigned : ℕ
+  unassigned = count_of_kind Unassigned fan
+
+  abbrev IsMaekawa : LocalFault → Type 0
+  IsMaekawa f = (can_balance mountains valleys unassigned ≡ false) × (f ≡ Maekawa mountains valleys unassigned)
+
+  pub maekawa_only : (f : LocalFault) → Member (maekawa_faults fan) f → IsMaekawa f
   maekawa_only f =
-      cond_both (differ_by_two mountains valleys) [] (Maekawa mountains valleys ∷ [])
-      (λ fs. Member fs f → (differ_by_two mountains valleys ≡ false) × (f ≡ Maekawa mountains valleys))
+      cond_both (can_balance mountains valleys unassigned) [] (Maekawa mountains valleys unassigned ∷ [])
+      (λ fs. Member fs f → IsMaekawa f)
       (λ e m. absurd m)
       (λ e m. elim m [ inl g ↦ (e, sym g) | inr n ↦ absurd n ])
 
@@ -92,7 +126,7 @@ module _ (fan : List Ray) where
   small_words : (k : ℕ) → is_small_sector fan k ≡ true → IsSmallSector fan k
   small_words k e =
       let size = sector_at fan k in
-      let alike = is_same_kind (around fan k).kind (around fan (k + 1)).kind in
+      let alike = fold_one_way (around fan k).kind (around fan (k + 1)).kind in
       let h = and_parts (ltb size (sector_at fan (k + length fan - 1)))
       (ltb size (sector_at fan (k + 1)) && alike) e in
       let g = and_parts (ltb size (sector_at fan (k + 1))) alike h.1 in
@@ -105,7 +139,7 @@ module _ (fan : List Ray) where
   small_test : (k : ℕ) → IsSmallSector fan k → is_small_sector fan k ≡ true
   small_test k h =
       let size = sector_at fan k in
-      let alike = is_same_kind (around fan k).kind (around fan (k + 1)).kind in
+      let alike = fold_one_way (around fan k).kind (around fan (k + 1)).kind in
       and_from (ltb size (sector_at fan (k + length fan - 1))) (ltb size (sector_at fan (k + 1)) && alike)
       (lt-ltb size (sector_at fan (k + length fan - 1)) h.before)
       (and_from (ltb size (sector_at fan (k + 1))) alike
@@ -113,36 +147,39 @@ module _ (fan : List Ray) where
 
   -- ---- the balance of mountains and valleys
 
-  unbalanced : (m v : ℕ) → differ_by_two m v ≡ false → (m ≢ v + 2) × (v ≢ m + 2)
-  unbalanced m v e =
-      let h = or_parts (eqb m (v + 2)) (eqb v (m + 2)) e in
-      (eqb-false m (v + 2) h.0, eqb-false v (m + 2) h.1)
+  maekawa_is : (m v u : ℕ) → m ≡ mountains → v ≡ valleys → u ≡ unassigned
+      → maekawa_faults fan ≡ maekawa_unless_balanced m v u
+  maekawa_is m v u e f g =
+      ap (λ k. maekawa_unless_balanced k valleys unassigned) (sym e)
+      ∙ ap (λ k. maekawa_unless_balanced m k unassigned) (sym f)
+      ∙ ap (λ k. maekawa_unless_balanced m v k) (sym g)
 
-  maekawa_words : (m v : ℕ) → differ_by_two mountains valleys ≡ false
-      → Maekawa m v ≡ Maekawa mountains valleys → IsUnbalanced fan m v
-  maekawa_words m v e f =
+  can_balance_is : (m v u : ℕ) → m ≡ mountains → v ≡ valleys → u ≡ unassigned
+      → can_balance m v u ≡ can_balance mountains valleys unassigned
+  can_balance_is m v u e f g =
+      ap (λ k. can_balance k v u) e ∙ ap (λ k. can_balance mountains k u) f
+      ∙ ap (λ k. can_balance mountains valleys k) g
+
+  maekawa_words : (m v u : ℕ) → can_balance mountains valleys unassigned ≡ false
+      → Maekawa m v u ≡ Maekawa mountains valleys unassigned → IsUnbalanced fan m v u
+  maekawa_words m v u e f =
       let first : m ≡ mountains = cc in
       let second : v ≡ valleys = cc in
-      let apart = unbalanced mountains valleys e in
+      let third : u ≡ unassigned = cc in
       record {
         mountains = first;
         valleys = second;
-        not_more = λ g. apart.0 (sym first ∙ g ∙ ap (λ k. k + 2) second);
-        not_less = λ g. apart.1 (sym second ∙ g ∙ ap (λ k. k + 2) first);
+        unassigned = third;
+        never = none_balances m v u (can_balance_is m v u first second third ∙ e);
       }
 
-  maekawa_there : (m v : ℕ) → IsUnbalanced fan m v → Member (maekawa_faults fan) (Maekawa m v)
-  maekawa_there m v h =
-      let more : eqb mountains (valleys + 2)
-      ≡ false = ne_eqb mountains (valleys + 2)
-      (λ g. h.not_more (h.mountains ∙ g ∙ ap (λ k. k + 2) (sym h.valleys))) in
-      let less : eqb valleys (mountains + 2)
-      ≡ false = ne_eqb valleys (mountains + 2)
-      (λ g. h.not_less (h.valleys ∙ g ∙ ap (λ k. k + 2) (sym h.mountains))) in
-      subst (λ fs. Member fs (Maekawa m v))
-      (sym (cond-false (differ_by_two mountains valleys) [] (Maekawa mountains valleys ∷ [])
-      (or_from (eqb mountains (valleys + 2)) (eqb valleys (mountains + 2)) more less)))
-      (inl (ap₂ Maekawa (sym h.mountains) (sym h.valleys)))
+  maekawa_there : (m v u : ℕ) → IsUnbalanced fan m v u → Member (maekawa_faults fan) (Maekawa m v u)
+  maekawa_there m v u h =
+      let test : can_balance m v u ≡ false = false_from_ne_true (can_balance m v u)
+      (λ e. let w = some_balances m v u e in h.never w.0 w.1 w.2) in
+      subst (λ fs. Member fs (Maekawa m v u))
+      (sym (maekawa_is m v u h.mountains h.valleys h.unassigned
+      ∙ cond-false (can_balance m v u) [] (Maekawa m v u ∷ []) test)) (inl refl)
 
   -- ---- the faults of a fan
 
@@ -151,7 +188,8 @@ module _ (fan : List Ray) where
 
   data FromPart (f : LocalFault) : Type 0 where
     by_kawasaki : comes_round fan ≡ false → f ≡ Kawasaki → FromPart f
-    by_maekawa : differ_by_two mountains valleys ≡ false → f ≡ Maekawa mountains valleys → FromPart f
+    by_maekawa : can_balance mountains valleys unassigned ≡ false → f ≡ Maekawa mountains valleys unassigned
+        → FromPart f
     by_sector : (k : ℕ) → 4 ≤ length fan → k < length fan → is_small_sector fan k ≡ true
         → f ≡ BigLittleBig (ray_in fan k).dir → FromPart f
 
@@ -172,10 +210,10 @@ module _ (fan : List Ray) where
   kawasaki_breaks (by_maekawa e g) back = absurd (cc)
   kawasaki_breaks (by_sector k a b e g) back = absurd (cc)
 
-  maekawa_breaks : (m v : ℕ) → FromPart (Maekawa m v) → IsUnbalanced fan m v
-  maekawa_breaks m v (by_kawasaki e g) = absurd (cc)
-  maekawa_breaks m v (by_maekawa e g) = maekawa_words m v e g
-  maekawa_breaks m v (by_sector k a b e g) = absurd (cc)
+  maekawa_breaks : (m v u : ℕ) → FromPart (Maekawa m v u) → IsUnbalanced fan m v u
+  maekawa_breaks m v u (by_kawasaki e g) = absurd (cc)
+  maekawa_breaks m v u (by_maekawa e g) = maekawa_words m v u e g
+  maekawa_breaks m v u (by_sector k a b e g) = absurd (cc)
 
   sector_breaks : (d : Dir) → FromPart (BigLittleBig d) → HasSmallSector fan d
   sector_breaks d (by_kawasaki e g) = absurd (cc)
@@ -185,7 +223,7 @@ module _ (fan : List Ray) where
 
   pub breaks : (f : LocalFault) → Member (fan_faults fan) f → Breaks fan f
   breaks Kawasaki m = kawasaki_breaks (from_part Kawasaki m)
-  breaks (Maekawa m v) n = maekawa_breaks m v (from_part (Maekawa m v) n)
+  breaks (Maekawa m v u) n = maekawa_breaks m v u (from_part (Maekawa m v u) n)
   breaks (BigLittleBig d) m = sector_breaks d (from_part (BigLittleBig d) m)
 
   pub broken : (f : LocalFault) → Breaks fan f → Member (fan_faults fan) f
@@ -195,9 +233,9 @@ module _ (fan : List Ray) where
       (subst (λ fs. Member fs Kawasaki)
       (sym (cond-false (comes_round fan) [] (Kawasaki ∷ [])
       (false_from_ne_true (comes_round fan) (λ e. h (eqb-true (reflected_from fan 0) 0 e))))) (inl refl)))
-  broken (Maekawa m v) h =
-      member_left early_faults (little_faults fan) (Maekawa m v)
-      (member_right (kawasaki_faults fan) (maekawa_faults fan) (Maekawa m v) (maekawa_there m v h))
+  broken (Maekawa m v u) h =
+      member_left early_faults (little_faults fan) (Maekawa m v u)
+      (member_right (kawasaki_faults fan) (maekawa_faults fan) (Maekawa m v u) (maekawa_there m v u h))
   broken (BigLittleBig d) h =
       member_right early_faults (little_faults fan) (BigLittleBig d)
       (subst (λ (e : Dir). Member (little_faults fan) (BigLittleBig e)) (sym h.1.3)

@@ -4,7 +4,7 @@ use Rattle.std.specs.Prelude.{Option, None, Some, nat_lt}
 use Rattle.std.specs.List.{range_with_len}
 use Rattle.std.proofs.lemmas.List.{length-append, length-map}
 use Rattle.std.proofs.lemmas.List.FromFn.{length-range_with_len}
-use Rattle.crease_model.specs.declared.Kind.TheVariants.{Mountain, Valley}
+use Rattle.crease_model.specs.declared.Kind.TheVariants.{Mountain, Valley, Unassigned}
 use Rattle.plane_geometry.specs.declared.Point.{Point}
 use Rattle.plane_geometry.specs.Position.{position_of}
 use Rattle.plane_geometry.specs.SegmentView.{lesser_end, greater_end}
@@ -19,7 +19,7 @@ use Rattle.vertex_checks.specs.declared.faults.LocalFault.TheVariants.{Kawasaki,
 use Rattle.vertex_checks.specs.Vertices.{is_inside, with_inner, with_inner_ends, vertices_from, vertices_of}
 use Rattle.vertex_checks.specs.Fan.{ray_number, ray_at, with_ray, with_ray_if, fan_from, fan_of}
 use Rattle.vertex_checks.specs.Sectors.{ray_in, count_of_kind}
-use Rattle.vertex_checks.specs.Faults.{comes_round, kawasaki_faults, differ_by_two, maekawa_faults, is_small_sector, little_fault_at, little_faults, fan_faults, vertex_fault, faults_at, faults_of}
+use Rattle.vertex_checks.specs.Faults.{comes_round, kawasaki_faults, can_balance, maekawa_faults, is_small_sector, little_fault_at, little_faults, fan_faults, vertex_fault, faults_at, faults_of}
 
 -- ---- vertices
 
@@ -90,8 +90,9 @@ maekawa_length : (fan : List Ray) → length (maekawa_faults fan) ≤ 1
 maekawa_length fan =
     let mountains = count_of_kind Mountain fan in
     let valleys = count_of_kind Valley fan in
-    elim (differ_by_two mountains valleys) as
-    (λ b. length (cond b [] (Maekawa mountains valleys ∷ [])) ≤ 1)
+    let unassigned = count_of_kind Unassigned fan in
+    elim (can_balance mountains valleys unassigned) as
+    (λ b. length (cond b [] (Maekawa mountains valleys unassigned ∷ [])) ≤ 1)
     [ true ↦ omega arith | false ↦ omega arith ]
 
 fan_faults_length : (fan : List Ray) → length (fan_faults fan) ≤ length fan + 2

@@ -1,9 +1,9 @@
 -- What is in joined lists, and lists in which each element stands before all later ones.
-use Rattle.std.proofs.Common.{◌≡◌, ℕ, suc, zero, ◌+◌, ◌-◌, ◌<◌, ◌≤◌, inl, inr, List, [], ◌∷◌, ◌++◌, map, flat_map, refl, sym, ap, subst, ◌∙◌, arith}
+use Rattle.std.proofs.Common.{◌≡◌, ℕ, suc, zero, ◌+◌, ◌-◌, ◌<◌, ◌≤◌, inl, inr, Bool, false, ◌||◌, List, [], ◌∷◌, ◌++◌, map, flat_map, refl, sym, ap, subst, ◌∙◌, arith}
 use Rattle.std.proofs.lemmas.Bool.{cases_lt}
 use Rattle.std.proofs.lemmas.List.{append_assoc, map-append}
 use Rattle.std.specs.Prelude.{⊤}
-use Rattle.std.specs.List.{range_with_len}
+use Rattle.std.specs.List.{list_any, range_with_len}
 use Rattle.std.specs.List.Sorted.{IsStrictlySortedBy}
 use Rattle.std.specs.Cmp.{nat_cmp_is}
 use Rattle.std.specs.Ordering.{nat_cmp}
@@ -81,6 +81,14 @@ cmp_less i j less = sym (nat_cmp_is i j Less less)
 
 pub cmp_same : (i j : ℕ) → i ≡ j → nat_cmp i j ≡ Equal
 cmp_same i j same = sym (nat_cmp_is i j Equal same)
+
+-- the numbers from k on pass a test where those behind k do, if k does not
+pub any_later : (test : ℕ → Bool) (k n : ℕ) → k < n → test k ≡ false
+    → list_any test (range_with_len k (n - k)) ≡ list_any test (range_with_len (k + 1) (n - (k + 1)))
+any_later test k n less e =
+    let more : n - k ≡ suc (n - (k + 1)) = omega arith in
+    ap (λ (m : ℕ). list_any test (range_with_len k m)) more
+    ∙ ap (λ (b : Bool). b || list_any test (range_with_len (k + 1) (n - (k + 1)))) e
 
 -- ---- a list that is made number by number
 

@@ -1,6 +1,6 @@
 -- The faults of a pattern: at which vertices there are which, in which order, and all of them as a list.
 use Rattle.std.specs.Prelude.{◌≡◌, ◌↔◌, ℕ, ◌+◌, ◌-◌, ◌<◌, ◌≤◌, ◌==◌, nat_lt, Bool, ◌&&◌, ◌||◌, List, [], ◌∷◌, ◌++◌, length, map, flat_map, Contains, if◌then◌else◌}
-use Rattle.std.specs.List.{range_with_len}
+use Rattle.std.specs.List.{list_any, range_with_len}
 use Rattle.std.specs.List.Sorted.{IsStrictlySortedBy}
 use Rattle.std.specs.Ordering.{ordering_then, nat_cmp}
 use Rattle.std.specs.declared.cmp.Ordering.{Ordering}
@@ -8,7 +8,7 @@ use Rattle.plane_geometry.specs.declared.Point.{Point}
 use Rattle.plane_geometry.specs.declared.Dir.{Dir}
 use Rattle.plane_geometry.specs.DirView.{dir_number}
 use Rattle.plane_geometry.specs.Position.{position_of, compare_positions}
-use Rattle.crease_model.specs.declared.Kind.TheVariants.{Mountain, Valley}
+use Rattle.crease_model.specs.declared.Kind.TheVariants.{Mountain, Valley, Unassigned}
 use Rattle.crease_model.specs.View.{PatternView}
 use Rattle.isometry_map.specs.Linear.{rotation}
 use Rattle.vertex_checks.specs.declared.fans.Ray.{Ray}
@@ -17,8 +17,7 @@ use Rattle.vertex_checks.specs.declared.faults.LocalFault.TheVariants.{Kawasaki,
 use Rattle.vertex_checks.specs.declared.faults.VertexFault.{VertexFault}
 use Rattle.vertex_checks.specs.Vertices.{IsInnerEnd, vertices_of}
 use Rattle.vertex_checks.specs.Fan.{IsFan, fan_of}
-use Rattle.crease_model.specs.Kind.{is_same_kind}
-use Rattle.vertex_checks.specs.Sectors.{ray_in, around, sector_at, reflected_from, ComesRound, IsStraight, count_of_kind, IsUnbalanced, IsSmallSector}
+use Rattle.vertex_checks.specs.Sectors.{ray_in, around, sector_at, reflected_from, ComesRound, IsStraight, count_of_kind, IsUnbalanced, fold_one_way, IsSmallSector}
 
 -- ---- which
 
@@ -34,7 +33,7 @@ HasSmallSector fan d =
 -- the creases of a fan have this fault
 abbrev pub Breaks : List Ray → LocalFault → Type 0
 Breaks fan Kawasaki = ¬ ComesRound fan
-Breaks fan (Maekawa m v) = IsUnbalanced fan m v
+Breaks fan (Maekawa m v u) = IsUnbalanced fan m v u
 Breaks fan (BigLittleBig d) = HasSmallSector fan d
 
 abbrev pub IsFault : PatternView → VertexFault → Type 0
@@ -52,13 +51,13 @@ KawasakiIsByAngles pattern faults =
 
 abbrev pub variant_number : LocalFault → ℕ
 variant_number Kawasaki = 0
-variant_number (Maekawa m v) = 1
+variant_number (Maekawa m v u) = 1
 variant_number (BigLittleBig d) = 2
 
 -- of a small sector
 abbrev pub fault_direction : LocalFault → ℕ
 fault_direction Kawasaki = 0
-fault_direction (Maekawa m v) = 0
+fault_direction (Maekawa m v u) = 0
 fault_direction (BigLittleBig d) = dir_number d
 
 -- by variant, then by direction
@@ -88,16 +87,27 @@ kawasaki_faults fan = if comes_round fan then [] else Kawasaki ∷ []
 abbrev pub differ_by_two : ℕ → ℕ → Bool
 differ_by_two m v = m == v + 2 || v == m + 2
 
+-- with x of the u unassigned creases as mountains
+abbrev pub balances : ℕ → ℕ → ℕ → ℕ → Bool
+balances m v u x = differ_by_two (m + x) (v + (u - x))
+
+-- with some x from 0 to u
+abbrev pub can_balance : ℕ → ℕ → ℕ → Bool
+can_balance m v u = list_any (balances m v u) (range_with_len 0 (u + 1))
+
+abbrev pub maekawa_unless_balanced : ℕ → ℕ → ℕ → List LocalFault
+maekawa_unless_balanced m v u = if can_balance m v u then [] else Maekawa m v u ∷ []
+
 abbrev pub maekawa_faults : List Ray → List LocalFault
 maekawa_faults fan =
-    if differ_by_two (count_of_kind Mountain fan) (count_of_kind Valley fan) then []
-    else Maekawa (count_of_kind Mountain fan) (count_of_kind Valley fan) ∷ []
+    maekawa_unless_balanced (count_of_kind Mountain fan) (count_of_kind Valley fan)
+    (count_of_kind Unassigned fan)
 
 abbrev pub is_small_sector : List Ray → ℕ → Bool
 is_small_sector fan k =
     nat_lt (sector_at fan k) (sector_at fan (k + length fan - 1))
     && (nat_lt (sector_at fan k) (sector_at fan (k + 1))
-    && is_same_kind (around fan k).kind (around fan (k + 1)).kind)
+    && fold_one_way (around fan k).kind (around fan (k + 1)).kind)
 
 abbrev pub little_fault_at : List Ray → ℕ → List LocalFault
 little_fault_at fan k = if is_small_sector fan k then BigLittleBig (ray_in fan k).dir ∷ [] else []

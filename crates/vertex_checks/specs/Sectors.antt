@@ -1,9 +1,9 @@
 -- The sectors between neighbouring creases of a fan, and what the theorems say of them and of the creases.
-use Rattle.std.specs.Prelude.{◌≡◌, ◌≢◌, ℕ, ◌+◌, ◌-◌, ◌%◌, ◌<◌, List, [], ◌∷◌, length, slice_index_or, IsTrue}
+use Rattle.std.specs.Prelude.{◌≡◌, ◌⊎◌, ℕ, ◌+◌, ◌-◌, ◌%◌, ◌<◌, ◌≤◌, Bool, ◌&&◌, ◌||◌, List, [], ◌∷◌, length, slice_index_or, IsTrue}
 use Rattle.std.specs.List.{count_by}
 use Rattle.crease_model.specs.declared.Kind.{Kind}
 use Rattle.crease_model.specs.Kind.{is_same_kind}
-use Rattle.crease_model.specs.declared.Kind.TheVariants.{Edge, Mountain, Valley}
+use Rattle.crease_model.specs.declared.Kind.TheVariants.{Edge, Mountain, Valley, Unassigned}
 use Rattle.isometry_map.specs.Linear.{rotation, reflection, composed}
 use Rattle.vertex_checks.specs.declared.fans.Ray.{Ray}
 use Rattle.vertex_checks.specs.Fan.{ray_number}
@@ -57,18 +57,27 @@ pub record IsStraight (fan : List Ray) : Type 0 where
 abbrev pub count_of_kind : Kind → List Ray → ℕ
 count_of_kind kind fan = count_by (λ r. is_same_kind r.kind kind) fan
 
--- there are m mountains and v valleys, and these numbers don't differ by two
-pub record IsUnbalanced (fan : List Ray) (m v : ℕ) : Type 0 where
+abbrev pub DifferByTwo : ℕ → ℕ → Type 0
+DifferByTwo m v = (m ≡ v + 2) ⊎ (v ≡ m + 2)
+
+-- there are m mountains, v valleys and u unassigned creases. However many of these, x, fold as mountains and the others
+-- as valleys, mountains and valleys don't differ by two
+pub record IsUnbalanced (fan : List Ray) (m v u : ℕ) : Type 0 where
   pub mountains : m ≡ count_of_kind Mountain fan
   pub valleys : v ≡ count_of_kind Valley fan
-  pub not_more : m ≢ v + 2
-  pub not_less : v ≢ m + 2
+  pub unassigned : u ≡ count_of_kind Unassigned fan
+  pub never : (x : ℕ) → x ≤ u → ¬ DifferByTwo (m + x) (v + (u - x))
 
 -- ---- big-little-big
 
+-- both are mountains, or both are valleys
+abbrev pub fold_one_way : Kind → Kind → Bool
+fold_one_way q r =
+    (is_same_kind q Mountain && is_same_kind r Mountain) || (is_same_kind q Valley && is_same_kind r Valley)
+
 -- the sector from the k-th crease is smaller than the one before it and than the one after it, and both its creases are
--- of one kind
+-- mountains, or both are valleys
 pub record IsSmallSector (fan : List Ray) (k : ℕ) : Type 0 where
   pub before : sector_at fan k < sector_at fan (k + length fan - 1)
   pub after : sector_at fan k < sector_at fan (k + 1)
-  pub alike : IsTrue (is_same_kind (around fan k).kind (around fan (k + 1)).kind)
+  pub alike : IsTrue (fold_one_way (around fan k).kind (around fan (k + 1)).kind)

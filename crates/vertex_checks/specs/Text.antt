@@ -1,5 +1,5 @@
 -- Faults as text, a line each.
-use Rattle.std.specs.Prelude.{ℕ, List, ◌++◌, flat_map, codes, decimal}
+use Rattle.std.specs.Prelude.{ℕ, List, [], ◌++◌, flat_map, nat_eq, if◌then◌else◌, codes, decimal}
 use Rattle.plane_geometry.specs.declared.Point.{Point}
 use Rattle.plane_geometry.specs.DirView.{dir_number}
 use Rattle.cp_text.specs.LineText.{bare_point_text}
@@ -7,10 +7,15 @@ use Rattle.vertex_checks.specs.declared.faults.LocalFault.{LocalFault}
 use Rattle.vertex_checks.specs.declared.faults.LocalFault.TheVariants.{Kawasaki, Maekawa, BigLittleBig}
 use Rattle.vertex_checks.specs.declared.faults.VertexFault.{VertexFault}
 
+-- how many creases are unassigned, where some are
+abbrev pub unassigned_text : ℕ → List ℕ
+unassigned_text u = if nat_eq u 0 then [] else codes " " ++ decimal u
+
 -- the word, and its numbers
 abbrev pub local_text : LocalFault → List ℕ
 local_text Kawasaki = codes "kawasaki"
-local_text (Maekawa m v) = codes "maekawa " ++ decimal m ++ codes " " ++ decimal v
+local_text (Maekawa m v u) =
+    codes "maekawa " ++ decimal m ++ codes " " ++ decimal v ++ unassigned_text u
 local_text (BigLittleBig direction) = codes "biglittlebig " ++ decimal (dir_number direction)
 
 -- both coordinates, each with a space behind it

@@ -1,13 +1,13 @@
 //! All faults of a pattern.
 
-ghost use Rattle.std.specs.Prelude.{◌≡◌, ◌<◌, ◌≤◌, ◌↔◌, ◌∷◌, ◌++◌, [], length, Contains, IfOk, OnOk};
+ghost use Rattle.std.specs.Prelude.{◌≡◌, ◌+◌, ◌*◌, ◌<◌, ◌≤◌, ◌↔◌, ◌∷◌, ◌++◌, [], length, Contains, IfOk, OnOk};
 ghost use Rattle.crease_model.specs.Rules.{most_pieces};
 ghost use Rattle.isometry_map.specs.LinearView.{linear_number};
 ghost use Rattle.plane_geometry.specs.declared.Point.{Point};
 ghost use Rattle.vertex_checks.specs.Fan.{fan_of};
 ghost use Rattle.vertex_checks.specs.FanMap.{kept_fan};
 ghost use Rattle.vertex_checks.specs.Sectors.{count_of_kind};
-ghost use Rattle.vertex_checks.specs.Faults.{IsFault, KawasakiIsByAngles, IsInOrder, comes_round, kawasaki_faults, maekawa_faults, fan_faults, vertex_fault, vertex_faults, faults_at, faults_of};
+ghost use Rattle.vertex_checks.specs.Faults.{IsFault, KawasakiIsByAngles, IsInOrder, comes_round, kawasaki_faults, differ_by_two, can_balance, maekawa_faults, fan_faults, vertex_fault, vertex_faults, faults_at, faults_of};
 
 use crate::fans::{Fans, Ray, fan_in, fans_of};
 use crate::faults::{LocalFault, VertexFault};
@@ -31,7 +31,8 @@ fn comes_round(fan: &[Ray]) -> bool
 
 fn count_of_kind(kind: Kind, fan: &[Ray]) -> u32
     requires { length fan.now ≤ most_pieces }
-    ensures { result ≡ count_of_kind kind fan.now }
+    ensures value { result ≡ count_of_kind kind fan.now }
+    ensures few { result ≤ most_pieces }
 {
     let mut count = 0;
     for ray in fan {
@@ -63,6 +64,26 @@ fn push_kawasaki(faults: &mut Vec<VertexFault>, v: &Point, fan: &[Ray]) -> Resul
     Ok(())
 }
 
+fn differ_by_two(m: u32, v: u32) -> bool
+    requires { m + v ≤ 3 * most_pieces }
+    ensures { result ≡ differ_by_two m v }
+{
+    m == v + 2 || v == m + 2
+}
+
+// Whether mountains and valleys differ by two for some number of the unassigned creases that fold as mountains.
+fn can_balance(m: u32, v: u32, u: u32) -> bool
+    requires { m + v + u ≤ 3 * most_pieces }
+    ensures { result ≡ can_balance m v u }
+{
+    for x in 0..u + 1 {
+        if differ_by_two(m + x, v + (u - x)) {
+            return true;
+        }
+    }
+    false
+}
+
 fn push_maekawa(faults: &mut Vec<VertexFault>, v: &Point, fan: &[Ray]) -> Result<(), AllocError>
     requires { length fan.now ≤ most_pieces }
     ensures { OnOk result
@@ -70,8 +91,9 @@ fn push_maekawa(faults: &mut Vec<VertexFault>, v: &Point, fan: &[Ray]) -> Result
 {
     let m = count_of_kind(Kind::Mountain, fan);
     let other = count_of_kind(Kind::Valley, fan);
-    if m != other + 2 && other != m + 2 {
-        push_fault(faults, v, LocalFault::Maekawa { m, v: other })?;
+    let u = count_of_kind(Kind::Unassigned, fan);
+    if !can_balance(m, other, u) {
+        push_fault(faults, v, LocalFault::Maekawa { m, v: other, u })?;
     }
     Ok(())
 }

@@ -7,10 +7,11 @@ use plane_geometry::{Dir, Point};
 pub enum LocalFault {
     /// The reflections in the creases, one after the other, don't give the identity.
     Kawasaki,
-    /// There are m mountains and v valleys, which don't differ by two.
-    Maekawa { m: u32, v: u32 },
-    /// The sector that begins at this crease, counterclockwise, is smaller than both beside it, and its creases are of
-    /// one kind.
+    /// There are m mountains, v valleys and u unassigned creases, and however the unassigned ones fold, mountains and
+    /// valleys don't differ by two.
+    Maekawa { m: u32, v: u32, u: u32 },
+    /// The sector that begins at this crease, counterclockwise, is smaller than both beside it, and its creases are both
+    /// mountains or both valleys.
     BigLittleBig { direction: Dir },
 }
 

@@ -2,12 +2,13 @@
 
 ghost use Rattle.std.specs.Prelude.{◌≡◌, ◌<◌, ◌≤◌, ◌++◌, length, OnOk};
 ghost use Rattle.crease_model.specs.Rules.{most_pieces};
-ghost use Rattle.vertex_checks.specs.Sectors.{sector, around, sector_at};
+ghost use Rattle.vertex_checks.specs.Sectors.{sector, around, sector_at, fold_one_way};
 ghost use Rattle.vertex_checks.specs.Faults.{is_small_sector, little_fault_at, little_faults, vertex_faults};
 
 use crate::checking::push_fault;
 use crate::fans::Ray;
 use crate::faults::{LocalFault, VertexFault};
+use crease_model::Kind;
 use plane_geometry::Point;
 use std::alloc::AllocError;
 
@@ -35,7 +36,15 @@ fn sector_at(fan: &[Ray], k: usize) -> u8
     sector(around(fan, k), around(fan, k + 1))
 }
 
-// Whether the sector from the k-th ray is smaller than both beside it, with two creases of one kind.
+// Whether both are mountains, or both are valleys.
+fn fold_one_way(one: Kind, other: Kind) -> bool
+    ensures { result ≡ fold_one_way one other }
+{
+    (one.same(Kind::Mountain) && other.same(Kind::Mountain))
+        || (one.same(Kind::Valley) && other.same(Kind::Valley))
+}
+
+// Whether the sector from the k-th ray is smaller than both beside it, and its two creases fold one way.
 fn is_small_sector(fan: &[Ray], k: usize) -> bool
     requires inside { k < length fan.now }
     requires few { length fan.now ≤ most_pieces }
@@ -44,7 +53,7 @@ fn is_small_sector(fan: &[Ray], k: usize) -> bool
     let size = sector_at(fan, k);
     size < sector_at(fan, k + fan.len() - 1)
         && size < sector_at(fan, k + 1)
-        && around(fan, k).kind.same(around(fan, k + 1).kind)
+        && fold_one_way(around(fan, k).kind, around(fan, k + 1).kind)
 }
 
 fn push_little_fault(
@@ -65,7 +74,7 @@ fn push_little_fault(
     Ok(())
 }
 
-/// Adds the sectors around a vertex that are smaller than both beside them and have two creases of one kind.
+/// Adds the sectors around a vertex that are smaller than both beside them and whose two creases fold one way.
 pub(crate) fn push_little_faults(
     faults: &mut Vec<VertexFault>,
     v: &Point,

@@ -2,7 +2,7 @@
 
 ghost use Rattle.std.specs.Prelude.{◌≡◌, ◌++◌, OnOk, OnErr, codes, decimal};
 ghost use Rattle.cp_text.specs.Growth.{KeepsFront};
-ghost use Rattle.vertex_checks.specs.Text.{local_text, vertex_text, fault_text, faults_text};
+ghost use Rattle.vertex_checks.specs.Text.{unassigned_text, local_text, vertex_text, fault_text, faults_text};
 
 use crate::faults::{LocalFault, VertexFault};
 use cp_text::{all_or_nothing, append_number, write_point};
@@ -21,13 +21,28 @@ fn put_counts(out: &mut Vec<u8>, m: u32, v: u32) -> Result<(), AllocError>
     append_number(out, u64::from(v))
 }
 
+// Where there are some.
+fn put_unassigned(out: &mut Vec<u8>, u: u32) -> Result<(), AllocError>
+    ensures ok { OnOk result (out.new.items ≡ out.old.items ++ unassigned_text u) }
+    ensures err { OnErr result (KeepsFront out.old.items out.new.items) }
+{
+    if u == 0 {
+        return Ok(());
+    }
+    out.extend_from_slice(b" ")?;
+    append_number(out, u64::from(u))
+}
+
 fn put_local(out: &mut Vec<u8>, fault: LocalFault) -> Result<(), AllocError>
     ensures ok { OnOk result (out.new.items ≡ out.old.items ++ local_text fault) }
     ensures err { OnErr result (KeepsFront out.old.items out.new.items) }
 {
     match fault {
         LocalFault::Kawasaki => out.extend_from_slice(b"kawasaki"),
-        LocalFault::Maekawa { m, v } => put_counts(out, m, v),
+        LocalFault::Maekawa { m, v, u } => {
+            put_counts(out, m, v)?;
+            put_unassigned(out, u)
+        }
         LocalFault::BigLittleBig { direction } => {
             out.extend_from_slice(b"biglittlebig ")?;
             append_number(out, u64::from(direction.number()))

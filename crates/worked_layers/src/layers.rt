@@ -56,15 +56,20 @@ fn longer(alloc: Global, rules: &Rules, lists: &[Vec<Sign>]) -> Result<Vec<Vec<S
     Ok(grown)
 }
 
-/// How many lists of signs for all pairs break no rule, found by giving one pair after another its sign.
-pub(crate) fn count_orders(alloc: Global, layering: &Layering) -> Result<usize, AllocError> {
+/// The lists of signs for all pairs that break no rule, found by giving one pair after another its sign.
+pub(crate) fn orders_of(alloc: Global, layering: &Layering) -> Result<Vec<Vec<Sign>>, AllocError> {
     let rules = layering.rules()?;
     let mut lists = Vec::new(alloc);
     lists.push(Vec::new(alloc))?;
     for _ in 0..layering.pairs().len() {
         lists = longer(alloc, &rules, lists.as_slice())?;
     }
-    Ok(lists.len())
+    Ok(lists)
+}
+
+/// How many there are.
+pub(crate) fn count_orders(alloc: Global, layering: &Layering) -> Result<usize, AllocError> {
+    Ok(orders_of(alloc, layering)?.len())
 }
 
 /// A list of signs as text.

@@ -17,4 +17,6 @@ mod stamps;
 #[cfg(test)]
 mod tacos;
 #[cfg(test)]
+mod unassigned;
+#[cfg(test)]
 mod vertices;

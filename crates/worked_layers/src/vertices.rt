@@ -1,7 +1,7 @@
 //! The faults of vertices, worked by hand.
 
 use crate::patterns::{Crease, on_square, round_the_middle};
-use crease_model::Kind::{Mountain, Valley};
+use crease_model::Kind::{Mountain, Unassigned, Valley};
 use crease_model::{Pattern, Sheet};
 use crease_store::add;
 use plane_geometry::Point;
@@ -9,7 +9,7 @@ use std::test::Fail;
 use surd_number::Surd;
 use vertex_checks::{check, write_faults};
 
-const ROWS: [(&[Crease], &str); 7] = [
+const ROWS: [(&[Crease], &str); 10] = [
     // A cross with one valley folds flat.
     (
         &[
@@ -72,6 +72,36 @@ const ROWS: [(&[Crease], &str); 7] = [
             (Mountain, (0, 100), (0, 200)),
         ],
         "0 -100 maekawa 1 1\n0 100 maekawa 1 1\n",
+    ),
+    // A crease that is unassigned may be what Maekawa's theorem wants, and what big-little-big wants.
+    (
+        &[
+            (Unassigned, (0, 0), (200, 0)),
+            (Unassigned, (0, 0), (200, 200)),
+            (Mountain, (0, 0), (-200, 200)),
+            (Valley, (0, -200), (0, 0)),
+        ],
+        "",
+    ),
+    // One unassigned crease beside two mountains and two valleys can't make them differ by two.
+    (
+        &[
+            (Mountain, (0, 0), (200, 0)),
+            (Mountain, (0, 0), (200, 200)),
+            (Valley, (0, 0), (-200, 200)),
+            (Unassigned, (0, 0), (-200, 0)),
+            (Valley, (0, -200), (0, 0)),
+        ],
+        "0 0 kawasaki\n0 0 maekawa 2 2 1\n0 0 biglittlebig 0\n",
+    ),
+    // Of an odd number of creases mountains and valleys never differ by two.
+    (
+        &[
+            (Unassigned, (0, 0), (200, 0)),
+            (Unassigned, (0, -200), (0, 0)),
+            (Unassigned, (0, 0), (0, 200)),
+        ],
+        "0 0 kawasaki\n0 0 maekawa 0 0 3\n",
     ),
 ];
 

@@ -131,7 +131,7 @@ pub const BLOCKS: [Row; 10] = [
          end\n\
          end x\n\
          load\n\
-         5 0 0 1 0\n\
+         6 0 0 1 0\n\
          end\n\
          load\n\
          2 0 0 1\n\

@@ -37,4 +37,6 @@ mod runs;
 #[cfg(test)]
 mod stamps;
 #[cfg(test)]
+mod unassigned;
+#[cfg(test)]
 mod workers;

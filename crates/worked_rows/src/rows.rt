@@ -7,6 +7,7 @@ use crate::creases::CREASES;
 use crate::folding::FOLDINGS;
 use crate::lines::LINES;
 use crate::runs::{Row, all_meet};
+use crate::unassigned::UNASSIGNED;
 use std::test::Fail;
 
 const COMMANDS: [Row; 14] = [
@@ -515,5 +516,6 @@ fn answers_each_row(rt: HostRuntime) -> Result<(), Fail> {
     all_meet(&rt, alloc, &CHECKS)?;
     all_meet(&rt, alloc, &BLOCKS)?;
     all_meet(&rt, alloc, &FOLDINGS)?;
+    all_meet(&rt, alloc, &UNASSIGNED)?;
     Ok(())
 }

@@ -181,7 +181,11 @@ fn folded_strip(alloc: Global, creases: &str) -> Result<String, AllocError> {
     let mut at = 0_u32;
     for crease in creases.bytes() {
         at = at.saturating_add(100);
-        let kind = if crease == b'M' { 2 } else { 3 };
+        let kind = match crease {
+            b'M' => 2,
+            b'V' => 3,
+            _ => 5,
+        };
         writeln!(script, "{kind} {at} 0 {at} 100")?;
     }
     script.push_str("fold\n")?;
@@ -234,7 +238,7 @@ fn push_orders(
 fn strip_meets<R: Abort + Threads + Wait + Sync>(
     rt: &R,
     alloc: Global,
-    strip: Strip,
+    strip: (&str, &str),
 ) -> Result<usize, AllocError> {
     let (creases, orders) = strip;
     let mut script = folded_strip(alloc, creases)?;
@@ -249,14 +253,52 @@ fn strip_meets<R: Abort + Threads + Wait + Sync>(
     Ok(number)
 }
 
+// A strip with as many creases, all of them unassigned.
+fn free_creases(alloc: Global, strips: &[Strip]) -> Result<String, AllocError> {
+    let mut creases = String::new(alloc);
+    if let Some((assigned, _)) = strips.first() {
+        for _ in assigned.bytes() {
+            creases.push('U')?;
+        }
+    }
+    Ok(creases)
+}
+
+// The orders of all strips in one lexicographic order.
+fn all_orders(alloc: Global, strips: &[Strip]) -> Result<String, AllocError> {
+    let mut all = Vec::new(alloc);
+    for (_, orders) in strips {
+        for order in orders.split(' ') {
+            all.push(order)?;
+        }
+    }
+    all.sort_unstable();
+    let mut text = String::new(alloc);
+    for (k, order) in all.iter().enumerate() {
+        if k > 0 {
+            text.push(' ')?;
+        }
+        text.push_str(order)?;
+    }
+    Ok(text)
+}
+
+// Each choice of mountains and valleys by itself, and then, with unassigned creases, all of them at once.
 #[test]
 fn stamps_fold_in_all_ways(rt: HostRuntime) -> Result<(), Fail> {
+    let alloc = rt.alloc();
     for (ways, _, strips) in STAMPS {
         let mut orders = 0_usize;
         for strip in strips {
-            orders = orders.saturating_add(strip_meets(&rt, rt.alloc(), *strip)?);
+            orders = orders.saturating_add(strip_meets(&rt, alloc, *strip)?);
         }
         assert_eq!(rt; orders, ways);
+        let creases = free_creases(alloc, strips)?;
+        let all = all_orders(alloc, strips)?;
+        assert_eq!(rt;
+            strip_meets(&rt, alloc, (creases.as_str(), all.as_str()))?,
+            ways
+        );
     }
     Ok(())
 }

@@ -2,6 +2,7 @@
 
 use crate::folding::FOLDINGS;
 use crate::runs::{ROOM, Row, answer_with, has_text, words_of};
+use crate::unassigned::UNASSIGNED;
 use oriedita_cli::run;
 use oriedita_io::{Failed, MemOpener, MemSink, MemSource, Sink};
 use std::alloc::{AllocError, Global};
@@ -190,6 +191,9 @@ const COUNTS: [&[&str]; 4] = [
 fn jobs_answer_alike_on_any_workers(rt: HostRuntime) -> Result<(), Fail> {
     for words in COUNTS {
         for row in &FOLDINGS[..9] {
+            row_with(&rt, rt.alloc(), words, *row)?;
+        }
+        for row in &UNASSIGNED[..4] {
             row_with(&rt, rt.alloc(), words, *row)?;
         }
     }

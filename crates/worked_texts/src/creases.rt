@@ -158,7 +158,7 @@ fn refuses_lines(rt: HostRuntime) {
         (b"\t4  0\t-0.5 1r2 1-1r2 \t", None),
         (b"02 0 0 1 1", Some(LineFault::BadKind)),
         (b"0 0 0 1 1", Some(LineFault::BadKind)),
-        (b"5", Some(LineFault::BadKind)),
+        (b"6", Some(LineFault::BadKind)),
         (b"22 0 0 1 1", Some(LineFault::BadKind)),
         (b"set 2 0 0 1 1", Some(LineFault::UnknownWord)),
         (b"-2 0 0 1 1", Some(LineFault::UnknownWord)),
@@ -264,11 +264,12 @@ fn writes_lines(rt: HostRuntime) -> Result<(), Fail> {
     let Ok(y) = Surd::new(25, 0, 1) else {
         return Ok(());
     };
-    let rows: [(Kind, &[u8]); 4] = [
+    let rows: [(Kind, &[u8]); 5] = [
         (Kind::Edge, b"1 -600+400r2 12.5 12.5 -600+400r2\n"),
         (Kind::Mountain, b"2 -600+400r2 12.5 12.5 -600+400r2\n"),
         (Kind::Valley, b"3 -600+400r2 12.5 12.5 -600+400r2\n"),
         (Kind::Aux, b"4 -600+400r2 12.5 12.5 -600+400r2\n"),
+        (Kind::Unassigned, b"5 -600+400r2 12.5 12.5 -600+400r2\n"),
     ];
     for (kind, text) in rows {
         let line = CpLine {

@@ -135,9 +135,10 @@ const SCRIPTS: [(&str, &str); 18] = [
          refused notexact 4\n",
     ),
     (
-        "set 2 0 0 1 1\nset 3 0 0 1 1\nset 1 x 0 1 1\nset 4 0 0 1 1\nset 02 0 0 1 1\nset\nset 5 0 0 1\nset 2 0 0 1 68719476737\n",
+        "set 2 0 0 1 1\nset 3 0 0 1 1\nset 5 0 0 1 1\nset 1 x 0 1 1\nset 4 0 0 1 1\nset 02 0 0 1 1\nset\nset 5 0 0 1\nset 2 0 0 1 68719476737\n",
         "set 2 0 0 1 1\n\
          set 3 0 0 1 1\n\
+         set 5 0 0 1 1\n\
          refused badkind\n\
          refused badkind\n\
          refused badkind\n\
