@@ -1,5 +1,5 @@
 -- What a sink tells of being finished, after the bytes of two calls.
-use Rattle.std.proofs.Common.{◌≡◌, ℕ, zero, suc, ◌+◌, Option, Bool, false, refl, sym, subst, ◌∙◌, arith}
+use Rattle.std.proofs.Common.{ℕ, zero, suc, ◌+◌, Option, Bool, false, refl, sym, subst, ◌∙◌, arith}
 use Rattle.oriedita_io.specs.Told.{Tells, FinishedAfter}
 
 pub FinishedAfter-add : (before middle after : Option Bool) (m n : ℕ) → FinishedAfter before middle m

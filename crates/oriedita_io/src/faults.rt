@@ -1,6 +1,7 @@
 //! What a source, a sink or an opener answers that could not do what it was asked.
 
 use std::alloc::AllocError;
+use std::io;
 use thiserror::Error;
 
 /// A source or a sink could not do what it was asked. Its count of faults rose for it, or stands at the last
@@ -28,5 +29,23 @@ impl From<AllocError> for OpenFault {
 
     fn from(_e: AllocError) -> OpenFault {
         OpenFault::Memory
+    }
+}
+
+// A file that could not be opened: for want of memory only where the system says so.
+impl From<io::Error> for OpenFault {
+    ghost use Rattle.std.specs.Prelude.{◌≡◌, ◌↔◌};
+    ghost use Rattle.std.specs.IoError.{error_kind};
+    ghost use Rattle.std.specs.declared.io.ErrorKind.TheVariants.{OutOfMemory};
+    ghost use Rattle.oriedita_io.specs.declared.faults.OpenFault.TheVariants.{Memory};
+
+    ghost from_gives = { λ error fault. (fault ≡ Memory) ↔ (error_kind error ≡ OutOfMemory) };
+
+    fn from(error: io::Error) -> OpenFault {
+        if error.kind() == io::ErrorKind::OutOfMemory {
+            OpenFault::Memory
+        } else {
+            OpenFault::Failed
+        }
     }
 }

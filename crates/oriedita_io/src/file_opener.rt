@@ -1,9 +1,10 @@
 //! Files of the system as an opener. It tells nothing of them. A call that a signal interrupts is made again.
-ghost use Rattle.std.specs.Prelude.{◌≡◌, ◌≤◌};
+ghost use Rattle.std.specs.Prelude.{◌≡◌, ◌+◌, ◌≤◌, IfOk, vec_len};
 ghost use Rattle.oriedita_io.specs.Faults.{Rose};
 
+use super::reading::read_front;
 use super::standard::{TRIES, is_interrupted};
-use super::{Input, InputEnd, OpenFault, Opener, StdinSource, read_all};
+use super::{LONGEST_INPUT, OpenFault, Opener, StdinSource};
 use std::alloc::Global;
 use std::marker::Model;
 use std::rt::Files;
@@ -17,6 +18,20 @@ fn open_retrying<F: Files>(files: &F, path: &str) -> io::Result<F::File> {
         }
     }
     fs::open(files, path)
+}
+
+// The file at a path, whole, or its first `most` bytes where it has more.
+fn read_file<F: Files>(
+    alloc: Global,
+    files: &F,
+    path: &str,
+    most: usize,
+) -> Result<Vec<u8>, OpenFault>
+    requires { most ≤ LONGEST_INPUT + 1 }
+    ensures { IfOk result (λ bytes. vec_len bytes ≤ most) }
+{
+    let file = open_retrying(files, path)?;
+    read_front(alloc, &mut StdinSource::new(file), most)
 }
 
 /// The files that a runtime opens, as `&rt`. An error of opening or reading one is a fault, an interruption
@@ -63,18 +78,9 @@ impl<F: Files> Opener for FileOpener<F> {
     ghost file = { λ _ _. None };
 
     fn read_up_to(&mut self, alloc: Global, path: &str, most: usize) -> Result<Vec<u8>, OpenFault> {
-        let mut source = match open_retrying(&self.files, path) {
-            Ok(file) => StdinSource::new(file),
-            Err(error) if error.kind() == io::ErrorKind::OutOfMemory => {
-                return Err(OpenFault::Memory);
-            }
-            Err(_) => return Err(self.fail()),
-        };
-        let Input { mut bytes, end } = read_all(alloc, &mut source, most.saturating_sub(1))?;
-        if end == InputEnd::Failed {
-            return Err(self.fail());
+        match read_file(alloc, &self.files, path, most) {
+            Err(OpenFault::Failed) => Err(self.fail()),
+            read => read,
         }
-        bytes.truncate(most);
-        Ok(bytes)
     }
 }

@@ -1,9 +1,10 @@
 //! Reading from a source, to its end or up to a number of bytes.
-ghost use Rattle.std.specs.Prelude.{◌≡◌, ℕ, ◌+◌, ◌≤◌, ◌↔◌, List, length, vec_len, IfOk, OnErr, Option};
+ghost use Rattle.std.specs.Prelude.{◌≡◌, ℕ, ◌+◌, ◌≤◌, ◌↔◌, List, length, vec_len, Err, IfOk, OnErr, Option};
 ghost use Rattle.std.specs.Io.KnownBytes.{Consumes, IsAtEnd, ReadConsumes};
 ghost use Rattle.oriedita_io.specs.Faults.{Rose};
+ghost use Rattle.oriedita_io.specs.Told.{ReadsUpTo};
 
-use super::Failed;
+use super::{Failed, OpenFault};
 use std::alloc::{AllocError, Global};
 
 /// The most bytes that [`read_all`] may be asked for: 4 MiB, the longest script.
@@ -93,4 +94,24 @@ pub fn read_all<S: Source>(alloc: Global, source: &mut S, most: usize) -> Result
         bytes,
         end: InputEnd::More,
     })
+}
+
+/// Reads `source` to its end, or its first `most` bytes where more come: so a source that breaks before is
+/// never taken for a short one.
+pub(crate) fn read_front<S: Source>(
+    alloc: Global,
+    source: &mut S,
+    most: usize,
+) -> Result<Vec<u8>, OpenFault>
+    requires { most ≤ LONGEST_INPUT + 1 }
+    ensures bytes { IfOk result (λ bytes. ReadsUpTo (S.left source.old) most bytes.items) }
+    ensures size { IfOk result (λ bytes. vec_len bytes ≤ most) }
+    ensures cause { result ≡ Err OpenFault.Failed → Rose (S.faults source.old) (S.faults source.new) }
+{
+    let Input { mut bytes, end } = read_all(alloc, source, most.saturating_sub(1))?;
+    if end == InputEnd::Failed {
+        return Err(OpenFault::Failed);
+    }
+    bytes.truncate(most);
+    Ok(bytes)
 }

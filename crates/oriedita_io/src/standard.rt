@@ -1,23 +1,25 @@
 //! Standard input and output as a source and a sink. They tell what their reader and writer tell, which is
 //! nothing for those of the system. A call that a signal interrupts is made again.
-ghost use Rattle.std.specs.Prelude.{◌≡◌, IsErr, IsTrue};
+ghost use Rattle.std.specs.Prelude.{◌≡◌, ◌↔◌, IsErrAnd, IsTrue};
 ghost use Rattle.std.specs.Io.{ReadsAtMost, WritesAtMost};
+ghost use Rattle.std.specs.IoError.{error_kind};
 ghost use Rattle.std.specs.Io.KnownBytes.{Keeps, ReadConsumes, WriteAppends};
 
 use super::{Failed, Sink, Source};
 use std::io;
-use std::io::{Read, Write};
+use std::io::{ErrorKind, Read, Write};
 use std::marker::Model;
 
 /// How often a call is made at most, where signals interrupt it each time.
 pub(crate) const TRIES: u32 = 100_000;
 
+// Whether a signal interrupted a call. No other fault lets it be made again.
 pub(crate) fn is_interrupted<T>(ended: &io::Result<T>) -> bool
-    ensures { IsTrue result → IsErr ended.now }
+    ensures { IsTrue result ↔ IsErrAnd ended.now (λ error. error_kind error ≡ ErrorKind.Interrupted) }
 {
     match ended {
         Ok(_) => false,
-        Err(error) => error.kind() == io::ErrorKind::Interrupted,
+        Err(error) => error.kind() == ErrorKind::Interrupted,
     }
 }
 

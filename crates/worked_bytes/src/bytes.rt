@@ -6,7 +6,7 @@ use oriedita_io::{
 };
 use std::alloc::{AllocError, Global};
 use std::io;
-use std::io::{Read, Write};
+use std::io::{ErrorKind, Read, Write};
 use std::test::Fail;
 
 // The bytes of a source, the most that a read of it gives, the reads that fail, and how many bytes are asked
@@ -113,10 +113,6 @@ fn readers_and_writers_pass_bytes_on(rt: HostRuntime) -> Result<(), Fail> {
     assert_eq!(rt; sink.write(b"d"), Err(Failed), "no byte is written of one");
     assert_eq!(rt; sink.finish(), Ok(()));
     assert_eq!(rt; written, [b'a', b'b', b'c']);
-    assert_eq!(rt;
-        format!(in rt.alloc(); "{Failed}")?.as_str(),
-        "the object failed"
-    );
     Ok(())
 }
 
@@ -191,33 +187,36 @@ fn opens_files_of_the_system(rt: HostRuntime) -> Result<(), Fail> {
     Ok(())
 }
 
-// Gives `left` bytes and takes any number, one a call, and counts the flushes. A call is done only after so many
-// others were interrupted.
+// Gives `left` bytes and takes any number, one a call, and counts the calls and the flushes that are done. A call is
+// done only after so many others failed with this kind of fault.
 #[derive(Drop)]
-struct Interrupted {
-    interruptions: u32,
-    interrupted: u32,
+struct Failing {
+    kind: ErrorKind,
+    faults: u32,
+    failed: u32,
+    calls: u32,
     left: usize,
     taken: usize,
     flushes: u32,
 }
 
-impl Interrupted {
-    fn interrupts(&mut self) -> bool {
-        let interrupts = self.interrupted < self.interruptions;
-        self.interrupted = if interrupts {
-            self.interrupted.saturating_add(1)
+impl Failing {
+    fn fails(&mut self) -> bool {
+        self.calls = self.calls.saturating_add(1);
+        let fails = self.failed < self.faults;
+        self.failed = if fails {
+            self.failed.saturating_add(1)
         } else {
             0
         };
-        interrupts
+        fails
     }
 }
 
-impl Read for Interrupted {
+impl Read for Failing {
     fn read(&mut self, buf: &mut [u8]) -> io::Result<usize> {
-        if self.interrupts() {
-            return Err(io::Error::from(io::ErrorKind::Interrupted));
+        if self.fails() {
+            return Err(io::Error::from(self.kind));
         }
         let count = buf.len().min(self.left).min(1);
         self.left = self.left.saturating_sub(count);
@@ -225,10 +224,10 @@ impl Read for Interrupted {
     }
 }
 
-impl Write for Interrupted {
+impl Write for Failing {
     fn write(&mut self, buf: &[u8]) -> io::Result<usize> {
-        if self.interrupts() {
-            return Err(io::Error::from(io::ErrorKind::Interrupted));
+        if self.fails() {
+            return Err(io::Error::from(self.kind));
         }
         let count = buf.len().min(1);
         self.taken = self.taken.saturating_add(count);
@@ -236,45 +235,80 @@ impl Write for Interrupted {
     }
 
     fn flush(&mut self) -> io::Result<()> {
-        if self.interrupts() {
-            return Err(io::Error::from(io::ErrorKind::Interrupted));
+        if self.fails() {
+            return Err(io::Error::from(self.kind));
         }
         self.flushes = self.flushes.saturating_add(1);
         Ok(())
     }
 }
 
-// The interruptions before each call; then why the reading stops, how many bytes are read and written, and how often
-// the writer is flushed.
-const INTERRUPTIONS: [(u32, InputEnd, usize, u32); 4] = [
-    (0, InputEnd::Ended, 3, 1),
-    (1, InputEnd::Ended, 3, 1),
-    (99_999, InputEnd::Ended, 3, 1),
-    (u32::MAX, InputEnd::Failed, 0, 0),
+// The kind of fault and how often it comes before each call is done; then why the reading stops, how many bytes are read
+// and written, how often the writer is flushed, and the calls of reader and writer in all.
+type Trying = (ErrorKind, u32, InputEnd, usize, u32, u32);
+
+const TRYINGS: [Trying; 7] = [
+    (ErrorKind::Interrupted, 0, InputEnd::Ended, 3, 1, 8),
+    (ErrorKind::Interrupted, 1, InputEnd::Ended, 3, 1, 16),
+    (
+        ErrorKind::Interrupted,
+        99_999,
+        InputEnd::Ended,
+        3,
+        1,
+        800_000,
+    ),
+    (
+        ErrorKind::Interrupted,
+        u32::MAX,
+        InputEnd::Failed,
+        0,
+        0,
+        300_000,
+    ),
+    (ErrorKind::WouldBlock, u32::MAX, InputEnd::Failed, 0, 0, 3),
+    (ErrorKind::OutOfMemory, u32::MAX, InputEnd::Failed, 0, 0, 3),
+    (ErrorKind::Other, u32::MAX, InputEnd::Failed, 0, 0, 3),
 ];
 
+// An interrupted call is made again, and no other one that failed.
 #[test]
-fn interrupted_calls_are_made_again(rt: HostRuntime) -> Result<(), Fail> {
-    for (interruptions, end, count, flushes) in INTERRUPTIONS {
-        let mut stream = Interrupted {
-            interruptions,
-            interrupted: 0,
+fn interrupted_calls_alone_are_made_again(rt: HostRuntime) -> Result<(), Fail> {
+    for (kind, faults, end, count, flushes, calls) in TRYINGS {
+        let mut stream = Failing {
+            kind,
+            faults,
+            failed: 0,
+            calls: 0,
             left: 3,
             taken: 0,
             flushes: 0,
         };
         let input = read_all(rt.alloc(), &mut StdinSource::new(&mut stream), 9)?;
-        assert_eq!(rt; input.end, end, "{interruptions}");
-        assert_eq!(rt; input.bytes.len(), count, "{interruptions}");
+        assert_eq!(rt; input.end, end, "{kind} {faults}");
+        assert_eq!(rt; input.bytes.len(), count, "{kind} {faults}");
         let mut sink = StdoutSink::new(&mut stream);
         assert_eq!(rt;
             write_all(&mut sink, b"abc").is_ok(),
             count == 3,
-            "{interruptions}"
+            "{kind} {faults}"
         );
-        assert_eq!(rt; sink.finish().is_ok(), flushes == 1, "{interruptions}");
-        assert_eq!(rt; stream.taken, count, "{interruptions}");
-        assert_eq!(rt; stream.flushes, flushes, "{interruptions}");
+        assert_eq!(rt; sink.finish().is_ok(), flushes == 1, "{kind} {faults}");
+        assert_eq!(rt; stream.taken, count, "{kind} {faults}");
+        assert_eq!(rt; stream.flushes, flushes, "{kind} {faults}");
+        assert_eq!(rt; stream.calls, calls, "{kind} {faults}");
     }
+    Ok(())
+}
+
+#[test]
+fn faults_have_their_text(rt: HostRuntime) -> Result<(), Fail> {
+    let alloc = rt.alloc();
+    let failed = Failed.to_string(alloc)?;
+    assert_eq!(rt; failed.as_str(), "the object failed");
+    let unopened = OpenFault::Failed.to_string(alloc)?;
+    assert_eq!(rt; unopened.as_str(), "the file could not be read");
+    let memory = OpenFault::Memory.to_string(alloc)?;
+    assert_eq!(rt; memory.as_str(), "out of memory");
     Ok(())
 }
