@@ -63,7 +63,7 @@ impl<F: Files> FileOpener<F> {
     fn fail(&mut self) -> OpenFault
         ensures fault { result ≡ OpenFault.Failed }
         ensures rose { Rose self.old.faults self.new.faults }
-        ensures faults_stay { self.old.faults ≤ self.new.faults }
+        ensures faults_rise { self.old.faults ≤ self.new.faults }
     {
         self.faults = self.faults.saturating_add(1);
         OpenFault::Failed

@@ -80,7 +80,8 @@ impl Opener for MemOpener {
         ensures bytes { IfOk result (λ bytes. ReadsUpTo (file_at self.old.files path.now) most bytes.items) }
         ensures size { IfOk result (λ bytes. vec_len bytes ≤ most) }
         ensures files { self.new.files ≡ self.old.files }
-        ensures faults_stay { self.old.faults ≤ self.new.faults }
+        ensures faults_stay { result ≢ Err OpenFault.Failed → self.new.faults ≡ self.old.faults }
+        ensures faults_rise { self.old.faults ≤ self.new.faults }
         ensures cause { result ≡ Err OpenFault.Failed → Rose self.old.faults self.new.faults }
 
         // A read fails exactly where its number is listed or no file has the path.

@@ -106,7 +106,8 @@ impl Sink for MemSink {
         ensures finished { MatchResult result
             (λ n. FinishedAfter (Some self.old.finished) (Some self.new.finished) n)
             (λ _. Some self.new.finished ≡ Some self.old.finished) }
-        ensures faults_stay { self.old.faults ≤ self.new.faults }
+        ensures faults_stay { OnOk result (self.new.faults ≡ self.old.faults) }
+        ensures faults_rise { self.old.faults ≤ self.new.faults }
         ensures cause { OnErr result (Rose self.old.faults self.new.faults) }
 
         // A write fails exactly where its number is listed, or where there is a byte and no room.
@@ -144,7 +145,8 @@ impl Sink for MemSink {
         ensures bytes { Keeps (Some self.old.taken) (Some self.new.taken) }
         ensures ok { OnOk result (Tells (Some self.new.finished) true) }
         ensures err { OnErr result (Some self.new.finished ≡ Some self.old.finished) }
-        ensures faults_stay { self.old.faults ≤ self.new.faults }
+        ensures faults_stay { OnOk result (self.new.faults ≡ self.old.faults) }
+        ensures faults_rise { self.old.faults ≤ self.new.faults }
         ensures cause { OnErr result (Rose self.old.faults self.new.faults) }
 
         // A finish fails exactly where its number is listed.

@@ -1,5 +1,5 @@
 //! A source in memory, which gives as little at a time and fails as often as it is made to.
-ghost use Rattle.std.specs.Prelude.{◌≡◌, ◌≤◌, ◌↔◌, [], Some, length, min, drop, Contains, IsErr, IsOk, IfOk, OnErr, MatchResult};
+ghost use Rattle.std.specs.Prelude.{◌≡◌, ◌≤◌, ◌↔◌, [], Some, length, min, drop, Contains, IsErr, IsOk, IfOk, OnErr, OnOk, MatchResult};
 ghost use Rattle.std.specs.Io.KnownBytes.{ReadConsumes};
 ghost use Rattle.oriedita_io.specs.Faults.{Rose, one_more};
 
@@ -66,7 +66,8 @@ impl Source for MemSource {
     fn read(&mut self, into: &mut [u8]) -> Result<usize, Failed>
         ensures bound { IfOk result (λ n. n ≤ length into.new) }
         ensures bytes { ReadConsumes (Some self.old.left) (Some self.new.left) result into.new }
-        ensures faults_stay { self.old.faults ≤ self.new.faults }
+        ensures faults_stay { OnOk result (self.new.faults ≡ self.old.faults) }
+        ensures faults_rise { self.old.faults ≤ self.new.faults }
         ensures cause { OnErr result (Rose self.old.faults self.new.faults) }
 
         // A read fails exactly where its number is listed.

@@ -1,5 +1,5 @@
 //! Reading from a source, to its end or up to a number of bytes.
-ghost use Rattle.std.specs.Prelude.{◌≡◌, ℕ, ◌+◌, ◌≤◌, ◌↔◌, List, length, vec_len, Err, IfOk, OnErr, Option};
+ghost use Rattle.std.specs.Prelude.{◌≡◌, ◌≢◌, ℕ, ◌+◌, ◌≤◌, ◌↔◌, List, length, vec_len, Err, IfOk, OnErr, OnOk, MatchResult, Option};
 ghost use Rattle.std.specs.Io.KnownBytes.{Consumes, IsAtEnd, ReadConsumes};
 ghost use Rattle.oriedita_io.specs.Faults.{Rose};
 ghost use Rattle.oriedita_io.specs.Told.{ReadsUpTo};
@@ -15,7 +15,7 @@ const CHUNK: usize = 4096;
 
 /// Where bytes come from.
 pub trait Source {
-    // The faults so far. The count stands still at the last `u64`.
+    // The faults so far. The count rises at a fault alone, and stands still at the last `u64`.
     ghost faults: { Self → ℕ };
 
     // The bytes still to come, where the source tells them.
@@ -26,7 +26,8 @@ pub trait Source {
     fn read(&mut self, into: &mut [u8]) -> Result<usize, Failed>
         ensures bound { IfOk result (λ n. n ≤ length into.new) }
         ensures bytes { ReadConsumes (left self.old) (left self.new) result into.new }
-        ensures faults_stay { faults self.old ≤ faults self.new }
+        ensures faults_stay { OnOk result (faults self.new ≡ faults self.old) }
+        ensures faults_rise { faults self.old ≤ faults self.new }
         ensures cause { OnErr result (Rose (faults self.old) (faults self.new)) };
 }
 
@@ -68,7 +69,10 @@ pub fn read_all<S: Source>(alloc: Global, source: &mut S, most: usize) -> Result
     ensures ended { IfOk result (λ input. input.end ≡ InputEnd.Ended → IsAtEnd (S.left source.new)) }
     ensures cause { IfOk result (λ input.
         input.end ≡ InputEnd.Failed → Rose (S.faults source.old) (S.faults source.new)) }
-    ensures faults_stay { S.faults source.old ≤ S.faults source.new }
+    ensures faults_stay { MatchResult result
+        (λ input. input.end ≢ InputEnd.Failed → S.faults source.new ≡ S.faults source.old)
+        (λ _. S.faults source.new ≡ S.faults source.old) }
+    ensures faults_rise { S.faults source.old ≤ S.faults source.new }
 {
     let mut bytes = Vec::new(alloc);
     let mut chunk = [0u8; CHUNK];
@@ -107,6 +111,7 @@ pub(crate) fn read_front<S: Source>(
     ensures bytes { IfOk result (λ bytes. ReadsUpTo (S.left source.old) most bytes.items) }
     ensures size { IfOk result (λ bytes. vec_len bytes ≤ most) }
     ensures cause { result ≡ Err OpenFault.Failed → Rose (S.faults source.old) (S.faults source.new) }
+    ensures faults_stay { result ≢ Err OpenFault.Failed → S.faults source.new ≡ S.faults source.old }
 {
     let Input { mut bytes, end } = read_all(alloc, source, most.saturating_sub(1))?;
     if end == InputEnd::Failed {

@@ -8,7 +8,7 @@ use super::Failed;
 
 /// Where bytes go.
 pub trait Sink {
-    // The faults so far. The count stands still at the last `u64`.
+    // The faults so far. The count rises at a fault alone, and stands still at the last `u64`.
     ghost faults: { Self → ℕ };
 
     // The bytes taken so far, where the sink tells them.
@@ -26,7 +26,8 @@ pub trait Sink {
         ensures finished { MatchResult result
             (λ n. FinishedAfter (finished self.old) (finished self.new) n)
             (λ _. finished self.new ≡ finished self.old) }
-        ensures faults_stay { faults self.old ≤ faults self.new }
+        ensures faults_stay { OnOk result (faults self.new ≡ faults self.old) }
+        ensures faults_rise { faults self.old ≤ faults self.new }
         ensures cause { OnErr result (Rose (faults self.old) (faults self.new)) };
 
     /// Passes on all that was taken. It is called once, after the last byte.
@@ -34,7 +35,8 @@ pub trait Sink {
         ensures bytes { Keeps (taken self.old) (taken self.new) }
         ensures ok { OnOk result (Tells (finished self.new) true) }
         ensures err { OnErr result (finished self.new ≡ finished self.old) }
-        ensures faults_stay { faults self.old ≤ faults self.new }
+        ensures faults_stay { OnOk result (faults self.new ≡ faults self.old) }
+        ensures faults_rise { faults self.old ≤ faults self.new }
         ensures cause { OnErr result (Rose (faults self.old) (faults self.new)) };
 }
 
@@ -46,7 +48,8 @@ pub fn write_all<K: Sink>(sink: &mut K, bytes: &[u8]) -> Result<(), Failed>
         (K.finished sink.old) (K.finished sink.new) bytes.now) }
     ensures finished { OnOk result
         (FinishedAfter (K.finished sink.old) (K.finished sink.new) (length bytes.now)) }
-    ensures faults_stay { K.faults sink.old ≤ K.faults sink.new }
+    ensures faults_stay { OnOk result (K.faults sink.new ≡ K.faults sink.old) }
+    ensures faults_rise { K.faults sink.old ≤ K.faults sink.new }
     ensures cause { OnErr result (Rose (K.faults sink.old) (K.faults sink.new)) }
     ensures nothing { length bytes.now ≡ 0 → IsOk result × (sink.new ≡ sink.old) }
 {

@@ -9,7 +9,7 @@ invariant-loop-chunk g l = record {
   size : vec_len l.bytes ≤ l.most + 1;
   chunk_size : length l.chunk ≡ CHUNK;
   bytes : Consumes (g.S.Source.left l.initial.source) (g.S.Source.left l.source) l.bytes.items;
-  faults : g.S.Source.faults l.initial.source ≤ g.S.Source.faults l.source;
+  faults : g.S.Source.faults l.source ≡ g.S.Source.faults l.initial.source;
 }
 
 abbrev pub decreases-loop-chunk : goal.decreases-loop-chunk

@@ -1,4 +1,4 @@
-use Rattle.std.proofs.Common.{◌≡◌, ℕ, ◌+◌, ◌-◌, ◌<◌, List, ◌++◌, Option, length, take, drop, arith, sym, subst, length-drop}
+use Rattle.std.proofs.Common.{◌≡◌, ℕ, ◌+◌, ◌-◌, ◌<◌, List, ◌++◌, Option, length, take, drop, arith, sym, subst, ◌∙◌, length-drop}
 use Rattle.std.proofs.Math.Seq.{take-add}
 use Rattle.std.proofs.lemmas.List.{take_rest}
 use Rattle.std.proofs.KnownBytes.{Appends-trans}
@@ -30,6 +30,6 @@ loop-written-preserved g c =
       appended = Appends-more _ _ _ c.loop-written.written c.in_ok-written.field-0 c.args.bytes.now
           before.appended step.bytes;
       finished = FinishedAfter-add _ _ _ _ _ before.finished step.finished;
-      faults = omega (arith, before.faults, step.faults_stay);
+      faults = step.faults_stay ∙ before.faults;
       nothing = λ none. absurd (omega arith);
     }

@@ -9,7 +9,7 @@ invariant-loop-written g l = record {
   within : l.written ≤ length l.bytes;
   appended : Appends (g.K.Sink.taken l.initial.sink) (g.K.Sink.taken l.sink) (take l.written l.bytes);
   finished : FinishedAfter (g.K.Sink.finished l.initial.sink) (g.K.Sink.finished l.sink) l.written;
-  faults : g.K.Sink.faults l.initial.sink ≤ g.K.Sink.faults l.sink;
+  faults : g.K.Sink.faults l.sink ≡ g.K.Sink.faults l.initial.sink;
   nothing : l.written ≡ 0 → l.sink ≡ l.initial.sink;
 }
 
