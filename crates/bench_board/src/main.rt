@@ -13,7 +13,7 @@ use std::rt::Env;
 use std::sync::ledger::{Blank, Ledger};
 use std::sync::{Arc, Wait};
 use std::thread::{Threads, join_mut, map_vec, yield_now};
-use task_board::{Board, Event, NoGate, Seat, Step, Work, serve};
+use task_board::{Board, BoardEvent, BoardStep, NoGate, Seat, Work, serve};
 
 /// The exit status where a line could not be written.
 const NOT_WRITTEN: u8 = 4;
@@ -110,24 +110,24 @@ fn own<L: Ledger, R: Wait>(
 }
 
 /// Writes a history on a line: of each event the seat, a letter and the ticket, and what it answered.
-fn write_history(out: &mut String, events: &[Event]) -> Result<(), AllocError> {
+fn write_history(out: &mut String, events: &[BoardEvent]) -> Result<(), AllocError> {
     for event in events {
         write_event(out, event)?;
     }
     Ok(())
 }
 
-fn write_event(out: &mut String, event: &Event) -> Result<(), AllocError> {
+fn write_event(out: &mut String, event: &BoardEvent) -> Result<(), AllocError> {
     let (letter, ticket, answer) = match event.step {
-        Step::Put(Some(ticket)) => ('P', ticket, true),
-        Step::Put(None) => ('P', 0, false),
-        Step::Take(Some(ticket)) => ('T', ticket, true),
-        Step::Take(None) => ('T', 0, false),
-        Step::Post(ticket) => ('O', ticket, true),
-        Step::GiveBack(ticket) => ('G', ticket, true),
-        Step::Fetch(ticket, found) => ('F', ticket, found),
-        Step::Obtain(ticket, found) => ('B', ticket, found),
-        Step::Close => ('C', 0, true),
+        BoardStep::Put(Some(ticket)) => ('P', ticket, true),
+        BoardStep::Put(None) => ('P', 0, false),
+        BoardStep::Take(Some(ticket)) => ('T', ticket, true),
+        BoardStep::Take(None) => ('T', 0, false),
+        BoardStep::Post(ticket) => ('O', ticket, true),
+        BoardStep::GiveBack(ticket) => ('G', ticket, true),
+        BoardStep::Fetch(ticket, found) => ('F', ticket, found),
+        BoardStep::Obtain(ticket, found) => ('B', ticket, found),
+        BoardStep::Close => ('C', 0, true),
     };
     let seat = event.seat;
     let answer = if answer { '+' } else { '-' };

@@ -5,7 +5,7 @@ use Rattle.std.proofs.lemmas.List.Sums.{sum_by-set, get_or-le-sum_by}
 use Rattle.std.proofs.lemmas.Option.{get_or_from_slice_get, slice_get_within}
 use Rattle.task_board.specs.declared.event.Stand.{Stand}
 use Rattle.task_board.specs.declared.event.Ticket.{Ticket}
-use Rattle.task_board.specs.declared.event.Step.TheVariants.{Put}
+use Rattle.task_board.specs.declared.event.BoardStep.TheVariants.{Put}
 use Rattle.task_board.specs.History.{Replay, is_next_step, ticket_at, with_stand, is_ticket, is_waiting, flag_of}
 use Rattle.task_board.specs.Room.{owed_at, owed_until}
 

@@ -6,9 +6,9 @@ use Rattle.task_board.specs.Numbers.{at_number, put_at}
 use Rattle.task_board.specs.declared.event.Stand.{Stand}
 use Rattle.task_board.specs.declared.event.Stand.TheVariants.{Waiting, Taken, Posted, Left, Gone}
 use Rattle.task_board.specs.declared.event.Ticket.{Ticket}
-use Rattle.task_board.specs.declared.event.Step.{Step}
-use Rattle.task_board.specs.declared.event.Step.TheVariants.{Put, Take, Post, GiveBack, Fetch, Obtain, Close}
-use Rattle.task_board.specs.declared.event.Event.{Event}
+use Rattle.task_board.specs.declared.event.BoardStep.{BoardStep}
+use Rattle.task_board.specs.declared.event.BoardStep.TheVariants.{Put, Take, Post, GiveBack, Fetch, Obtain, Close}
+use Rattle.task_board.specs.declared.event.BoardEvent.{BoardEvent}
 
 -- What a history leaves: the tickets, the first one first; whether the board is closed; for each seat whether it
 -- has closed, and whether a take told it that the board is closed.
@@ -84,7 +84,7 @@ abbrev pub flag_of : List Bool → ℕ → Bool
 flag_of flags seat = slice_index_or flags seat false
 
 -- whether the step may come next, with this answer, and is an event
-abbrev pub is_next_step : Replay → ℕ → Step → Bool
+abbrev pub is_next_step : Replay → ℕ → BoardStep → Bool
 is_next_step r seat (Put None) = r.is_closed
 is_next_step r seat (Put (Some n)) =
     not r.is_closed && (nat_lt (length r.tickets) 4294967295 && (n == length r.tickets + 1))
@@ -98,7 +98,7 @@ is_next_step r seat (Obtain n true) = is_ticket (is_answered_for seat) (ticket_a
 is_next_step r seat (Obtain n false) = is_ticket (is_idle_for seat) (ticket_at r n)
 is_next_step r seat Close = not (flag_of r.has_closed seat)
 
-abbrev pub is_next : Replay → Event → Bool
+abbrev pub is_next : Replay → BoardEvent → Bool
 is_next r e = is_next_step r e.seat e.step
 
 -- the ticket of this number is there from now on
@@ -111,7 +111,7 @@ with_stand r n stand = moved_from r n stand (ticket_at r n)
         record r { tickets = put_at r.tickets n (record { owner = t.owner; stand = stand }) }
 
 -- what the step leaves
-abbrev pub after_step : Replay → ℕ → Step → Replay
+abbrev pub after_step : Replay → ℕ → BoardStep → Replay
 after_step r seat (Put None) = r
 after_step r seat (Put (Some n)) =
     record r { tickets = r.tickets ++ record { owner = seat; stand = Waiting } ∷ [] }
@@ -124,29 +124,29 @@ after_step r seat (Fetch n false) = r
 after_step r seat (Obtain n found) = with_stand r n Gone
 after_step r seat Close = record r { is_closed = true; has_closed = slice_set r.has_closed seat true }
 
-abbrev pub after_event : Replay → Event → Replay
+abbrev pub after_event : Replay → BoardEvent → Replay
 after_event r e = after_step r e.seat e.step
 
 -- what the events leave, one after another
-abbrev pub replay_from : Replay → List Event → Replay
+abbrev pub replay_from : Replay → List BoardEvent → Replay
 replay_from r [] = r
 replay_from r (e ∷ es) = replay_from (after_event r e) es
 
-abbrev pub replay_of : List Event → Replay
+abbrev pub replay_of : List BoardEvent → Replay
 replay_of es = replay_from empty_board es
 
 -- each event has the answer that those before it give
-abbrev pub is_legal_from : Replay → List Event → Bool
+abbrev pub is_legal_from : Replay → List BoardEvent → Bool
 is_legal_from r [] = true
 is_legal_from r (e ∷ es) = is_next r e && is_legal_from (after_event r e) es
 
-abbrev pub is_legal : List Event → Bool
+abbrev pub is_legal : List BoardEvent → Bool
 is_legal es = is_legal_from empty_board es
 
 -- the history with the step where it may come next, and else as it is
-abbrev pub with_event : List Event → Event → List Event
+abbrev pub with_event : List BoardEvent → BoardEvent → List BoardEvent
 with_event es e = if is_next (replay_of es) e then es ++ e ∷ [] else es
 
 -- the event may come next, and it was added
-abbrev pub Adds : List Event → Event → List Event → Type 0
+abbrev pub Adds : List BoardEvent → BoardEvent → List BoardEvent → Type 0
 Adds old e new = (is_next (replay_of old) e ≡ true) × (new ≡ old ++ e ∷ [])

@@ -1,6 +1,6 @@
 -- A seat, and what a call does to it.
 use Rattle.std.specs.Prelude.{◌≡◌, ℕ, ◌+◌, ◌-◌, ◌<◌, ◌≤◌, Bool, false, List, length, Some, slice_get}
-use Rattle.task_board.specs.declared.event.Event.{Event}
+use Rattle.task_board.specs.declared.event.BoardEvent.{BoardEvent}
 
 -- its number, how many events it made, and whether a take told it that the board is closed
 pub record SeatView : Type 0 where
@@ -17,7 +17,7 @@ abbrev pub AreNewSeats : List SeatView → ℕ → Type 0
 AreNewSeats seats n = (length seats ≡ n) × ((k : ℕ) → k < n → slice_get seats k ≡ Some (new_seat k))
 
 -- the seat after a call that led from one history to another: it made what was added
-abbrev pub seat_after : SeatView → List Event → List Event → SeatView
+abbrev pub seat_after : SeatView → List BoardEvent → List BoardEvent → SeatView
 seat_after s old new = record s { made = s.made + (length new - length old) }
 
 -- the seat after a call that made this many events

@@ -3,14 +3,14 @@ use Rattle.std.specs.Prelude.{ℕ, true, List, Option, None, Some, Result, Ok, E
 use Rattle.task_board.specs.declared.work.Work.{Ghosts}
 use Rattle.task_board.specs.declared.content.Content.{Content}
 use Rattle.task_board.specs.declared.content.Content.TheVariants.{Nothing}
-use Rattle.task_board.specs.declared.event.Event.{Event}
+use Rattle.task_board.specs.declared.event.BoardEvent.{BoardEvent}
 use Rattle.task_board.specs.declared.fault.Waits.{Waits}
 use Rattle.task_board.specs.declared.state.BoardState.{BoardState}
 use Rattle.task_board.specs.Numbers.{put_at}
 use Rattle.task_board.specs.Seats.{SeatView}
 
 module _ {W L T O S : Type 0} {g : Ghosts W T O S} where
-  abbrev pub events_of : BoardState W L T O S g → List Event
+  abbrev pub events_of : BoardState W L T O S g → List BoardEvent
   events_of s = s.history
 
   -- by ticket, the first one first

@@ -20,7 +20,7 @@ pub struct Ticket {
 
 /// A call with its answer. Tickets are numbered from 1.
 #[derive(Clone, Copy, Debug, PartialEq, Eq)]
-pub enum Step {
+pub enum BoardStep {
     /// The new ticket; `None` where the board is closed.
     Put(Option<u32>),
     /// The ticket that was handed out; `None` where the board is closed.
@@ -36,7 +36,7 @@ pub enum Step {
 
 /// A step of a seat.
 #[derive(Clone, Copy, Debug, PartialEq, Eq)]
-pub struct Event {
+pub struct BoardEvent {
     pub seat: u32,
-    pub step: Step,
+    pub step: BoardStep,
 }

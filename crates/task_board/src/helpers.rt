@@ -1,6 +1,6 @@
 //! Who performs tasks for their owner.
 ghost use Rattle.std.specs.Prelude.{◌≡◌, ◌≢◌, ℕ, ◌+◌, ◌-◌, ◌^◌, ◌<◌, ◌≤◌, min, Option, None, Some, IsSome, IfOk, IfSome, IfNone, OnErr};
-ghost use Rattle.task_board.specs.Helping.{IsObtained};
+ghost use Rattle.task_board.specs.Helping.{IsObtained, raised};
 
 use crate::work::Work;
 use std::alloc::AllocError;
@@ -47,7 +47,7 @@ pub trait Helpers<W: Work> {
             IfSome (held self.old ticket) (λ task. ∥ W.right (W.stands task) outcome ∥₁))) }
         ensures gone { IfOk result (λ o. IfSome o (λ _. held self.new ticket ≡ None)) }
         ensures missed { IfOk result
-            (λ o. IfNone o (min (misses self.old + 1) (2 ^ 64 - 1) ≤ misses self.new)) }
+            (λ o. IfNone o (raised (misses self.old) ≤ misses self.new)) }
         ensures stays { IfOk result (λ o. IfNone o (held self.new ticket ≡ held self.old ticket)) }
         ensures err { OnErr result (held self.new ticket ≡ held self.old ticket) }
         ensures others { (k : ℕ) → k ≢ ticket → held self.new k ≡ held self.old k }

@@ -1,13 +1,13 @@
 //! The history, and what it leaves.
 ghost use Rattle.std.specs.Prelude.{◌≡◌, ◌≢◌, ℕ, ◌+◌, ◌-◌, ◌<◌, ◌≤◌, ◌^◌, ◌↔◌, Bool, true, false, not, ◌&&◌, [], ◌∷◌, ◌++◌, length, Some, None, Ok, Err, IfOk, IfErr, OnOk, OnErr, IsOk, IsErr, IsErrOf, IfSome, IfNone, MatchOption, MatchResult, IsTrue, slice_get, slice_set, vec_len, vec_capacity, if◌then◌else◌};
-ghost use Rattle.task_board.specs.declared.event.Event.{Event};
+ghost use Rattle.task_board.specs.declared.event.BoardEvent.{BoardEvent};
 ghost use Rattle.task_board.specs.declared.event.Ticket.{Ticket};
 ghost use Rattle.task_board.specs.declared.event.Stand.{Stand};
-ghost use Rattle.task_board.specs.declared.event.Step.TheVariants.{Put, Take, Post, GiveBack, Fetch, Obtain, Close};
+ghost use Rattle.task_board.specs.declared.event.BoardStep.TheVariants.{Put, Take, Post, GiveBack, Fetch, Obtain, Close};
 ghost use Rattle.task_board.specs.History.{Replay, with_event, Adds, after_step, is_answered_for, is_busy_for, is_idle_for, is_legal, is_next_step, is_taken_for, is_ticket, is_waiting, with_stand, replay_of, ticket_at};
 ghost use Rattle.task_board.specs.Room.{owed_at};
 
-use crate::event::{Event, Stand, Step, Ticket};
+use crate::event::{BoardEvent, BoardStep, Stand, Ticket};
 use crate::fault::{PutFault, Waits};
 use std::alloc::{AllocError, Global};
 use std::marker::Model;
@@ -21,7 +21,7 @@ pub const MOST_TICKETS: u32 = 4_294_967_295;
 /// A legal history, beside what it leaves. Contracts see it as its events.
 #[derive(Drop)]
 pub struct History {
-    events: Vec<Event>,
+    events: Vec<BoardEvent>,
     tickets: Vec<Ticket>,
     is_closed: bool,
     has_closed: [bool; 9],
@@ -34,9 +34,9 @@ pub struct History {
 
 impl Model for History {
     ghost use Rattle.std.specs.Prelude.{List, vec_capacity, length, ◌≤◌};
-    ghost use Rattle.task_board.specs.declared.event.Event.{Event};
+    ghost use Rattle.task_board.specs.declared.event.BoardEvent.{BoardEvent};
 
-    ghost Value = { List Event };
+    ghost Value = { List BoardEvent };
 
     ghost use Rattle.task_board.specs.Invariant.{IsHistory};
 
@@ -64,7 +64,7 @@ impl History {
     }
 
     /// The events, the first one first.
-    pub fn events(&self) -> &[Event]
+    pub fn events(&self) -> &[BoardEvent]
         ensures value { result.now ≡ self.now }
         ensures legal { is_legal self.now ≡ true }
     {
@@ -90,7 +90,7 @@ impl History {
     }
 
     /// Moves a ticket, for which there is room.
-    fn advance(&mut self, seat: u32, number: u32, stand: Stand, step: Step)
+    fn advance(&mut self, seat: u32, number: u32, stand: Stand, step: BoardStep)
         requires next { is_next_step (replay_of self.old) seat step ≡ true }
         requires leaves { after_step (replay_of self.old) seat step
             ≡ with_stand (replay_of self.old) number stand }
@@ -106,18 +106,18 @@ impl History {
             owner: ticket.owner,
             stand,
         };
-        self.events.push(Event { seat, step }).unwrap();
+        self.events.push(BoardEvent { seat, step }).unwrap();
     }
 
     /// Adds an event that moves nothing, with room of its own.
-    fn note(&mut self, seat: u32, step: Step) -> Result<(), AllocError>
+    fn note(&mut self, seat: u32, step: BoardStep) -> Result<(), AllocError>
         requires next { is_next_step (replay_of self.old) seat step ≡ true }
         requires leaves { after_step (replay_of self.old) seat step ≡ replay_of self.old }
         ensures ok { OnOk result (self.new ≡ self.old ++ event seat step ∷ []) }
         ensures err { OnErr result (self.new ≡ self.old) }
     {
         self.events.reserve(self.owed + 1)?;
-        self.events.push(Event { seat, step }).unwrap();
+        self.events.push(BoardEvent { seat, step }).unwrap();
         Ok(())
     }
 
@@ -139,9 +139,9 @@ impl History {
             .unwrap();
         self.owed += 3;
         self.events
-            .push(Event {
+            .push(BoardEvent {
                 seat,
-                step: Step::Put(Some(number)),
+                step: BoardStep::Put(Some(number)),
             })
             .unwrap();
         Ok(number)
@@ -152,7 +152,7 @@ impl History {
         ensures { IsPut self.old seat result self.new }
     {
         if self.is_closed {
-            self.note(seat, Step::Put(None))?;
+            self.note(seat, BoardStep::Put(None))?;
             return Err(PutFault::Closed(()));
         }
         if self.tickets.len() >= MOST_TICKETS as usize {
@@ -176,7 +176,12 @@ impl History {
             return Err(Waits);
         }
         let number = place as u32 + 1;
-        self.advance(seat, number, Stand::Taken(seat), Step::Take(Some(number)));
+        self.advance(
+            seat,
+            number,
+            Stand::Taken(seat),
+            BoardStep::Take(Some(number)),
+        );
         Ok(Some(number))
     }
 
@@ -190,9 +195,9 @@ impl History {
             self.was_told[seat as usize] = true;
             self.owed -= 1;
             self.events
-                .push(Event {
+                .push(BoardEvent {
                     seat,
-                    step: Step::Take(None),
+                    step: BoardStep::Take(None),
                 })
                 .unwrap();
         }
@@ -205,7 +210,7 @@ impl History {
     {
         let taken = is_taken(self.ticket(number), seat);
         if taken {
-            self.advance(seat, number, Stand::Posted, Step::Post(number));
+            self.advance(seat, number, Stand::Posted, BoardStep::Post(number));
         }
         taken
     }
@@ -217,7 +222,7 @@ impl History {
     {
         let taken = is_taken(self.ticket(number), seat);
         if taken {
-            self.advance(seat, number, Stand::Left, Step::GiveBack(number));
+            self.advance(seat, number, Stand::Left, BoardStep::GiveBack(number));
         }
         taken
     }
@@ -229,9 +234,9 @@ impl History {
     {
         let found = is_answered(self.ticket(number), seat);
         if found {
-            self.advance(seat, number, Stand::Gone, Step::Fetch(number, true));
+            self.advance(seat, number, Stand::Gone, BoardStep::Fetch(number, true));
         } else {
-            self.note(seat, Step::Fetch(number, false))?;
+            self.note(seat, BoardStep::Fetch(number, false))?;
         }
         Ok(found)
     }
@@ -242,10 +247,10 @@ impl History {
     {
         let ticket = self.ticket(number);
         if is_answered(ticket, seat) {
-            self.advance(seat, number, Stand::Gone, Step::Obtain(number, true));
+            self.advance(seat, number, Stand::Gone, BoardStep::Obtain(number, true));
             Ok(Some(true))
         } else if is_idle(ticket, seat) {
-            self.advance(seat, number, Stand::Gone, Step::Obtain(number, false));
+            self.advance(seat, number, Stand::Gone, BoardStep::Obtain(number, false));
             Ok(Some(false))
         } else if is_busy(ticket, seat) {
             Err(Waits)
@@ -266,9 +271,9 @@ impl History {
             self.has_closed[seat as usize] = true;
             self.owed -= 1;
             self.events
-                .push(Event {
+                .push(BoardEvent {
                     seat,
-                    step: Step::Close,
+                    step: BoardStep::Close,
                 })
                 .unwrap();
         }

@@ -20,7 +20,7 @@ mod worker;
 pub use alone::Alone;
 pub use board::Board;
 pub use content::{Answer, Content};
-pub use event::{Event, Stand, Step, Ticket};
+pub use event::{BoardEvent, BoardStep, Stand, Ticket};
 pub use fault::{PutFault, Waits};
 pub use gate::{Gate, NoGate};
 pub use helpers::{Helpers, Obtained};

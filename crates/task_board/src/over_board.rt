@@ -1,9 +1,8 @@
 //! Helpers over a board.
-ghost use Rattle.std.specs.Prelude.{ℕ, ◌≡◌, ◌≤◌, ◌^◌, ◌+◌, ◌-◌, true, min, IfOk, IfSome, IsSome, MatchOption, Some, None, MatchResult, OnErr};
+ghost use Rattle.std.specs.Prelude.{ℕ, ◌≡◌, ◌≢◌, ◌+◌, ◌<◌, ◌≤◌, ◌⊎◌, IfOk, IfNone, IfSome, IsSome, Some, None, OnErr};
 ghost use Rattle.std.specs.Arc.{arc_value};
 ghost use Rattle.std.specs.Option.{ForSome};
-ghost use Rattle.task_board.specs.Numbers.{kept_at};
-ghost use Rattle.task_board.specs.declared.helpers.Obtained.TheVariants.{Posted, Yours};
+ghost use Rattle.task_board.specs.Helping.{raised};
 
 use crate::board::Board;
 use crate::fault::PutFault;
@@ -37,7 +36,7 @@ pub struct OverBoard<'a, W: Work, L: Ledger, R: Wait> {
 }
 
 impl<'a, W: Work, L: Ledger, R: Wait> OverBoard<'a, W, L, R> {
-    ghost use Rattle.task_board.specs.OverBoard.{seat_of};
+    ghost use Rattle.task_board.specs.OverBoard.{given_of, held_of, misses_of, returns_of, seat_of};
 
     /// Helpers that hold no task.
     pub fn new(
@@ -47,10 +46,10 @@ impl<'a, W: Work, L: Ledger, R: Wait> OverBoard<'a, W, L, R> {
         work: &'a W,
         seat: Seat<L>,
     ) -> OverBoard<'a, W, L, R>
-        ensures misses { ⟦<OverBoard<'a, W, L, R> as Helpers<W>>⟧.misses result ≡ 0 }
-        ensures returns { ⟦<OverBoard<'a, W, L, R> as Helpers<W>>⟧.returns result ≡ 0 }
-        ensures given { ⟦<OverBoard<'a, W, L, R> as Helpers<W>>⟧.given result ≡ 0 }
-        ensures held { (n : ℕ) → ⟦<OverBoard<'a, W, L, R> as Helpers<W>>⟧.held result n ≡ None }
+        ensures misses { misses_of result ≡ 0 }
+        ensures returns { returns_of result ≡ 0 }
+        ensures given { given_of result ≡ 0 }
+        ensures held { (n : ℕ) → held_of result n ≡ None }
         ensures seat { seat_of result ≡ seat }
     {
         OverBoard {
@@ -75,44 +74,76 @@ impl<'a, W: Work, L: Ledger, R: Wait> OverBoard<'a, W, L, R> {
 
     /// How often no outcome was there.
     pub fn misses(&self) -> u64
-        ensures { result ≡ ⟦<OverBoard<'a, W, L, R> as Helpers<W>>⟧.misses self.now }
+        ensures { result ≡ misses_of self.now }
     {
         self.misses
     }
 
     /// How often a task came back.
     pub fn returns(&self) -> u64
-        ensures { result ≡ ⟦<OverBoard<'a, W, L, R> as Helpers<W>>⟧.returns self.now }
+        ensures { result ≡ returns_of self.now }
     {
         self.returns
     }
 }
 
 impl<'a, W: Work, L: Ledger, R: Wait> Helpers<W> for OverBoard<'a, W, L, R> {
-    ghost use Rattle.std.specs.Prelude.{vec_len, option_map};
-    ghost use Rattle.std.specs.Arc.{arc_value};
-    ghost use Rattle.task_board.specs.Numbers.{kept_at};
+    ghost use Rattle.task_board.specs.Helping.{IsObtained, returned};
+    ghost use Rattle.task_board.specs.OverBoard.{IsOffBoard, given_of, held_of, misses_of, returns_of, seat_of};
 
-    ghost misses = { λ s. s.misses };
+    ghost misses = { misses_of };
 
-    ghost returns = { λ s. s.returns };
+    ghost returns = { returns_of };
 
-    ghost given = { λ s. vec_len s.kept.places };
+    ghost given = { given_of };
 
-    ghost held = { λ s n. option_map (λ k. arc_value k.task) (kept_at s.kept.places.items n) };
+    ghost held = { held_of };
 
-    fn put(&mut self, task: W::Task) -> Result<u32, AllocError> {
+    fn put(&mut self, task: W::Task) -> Result<u32, AllocError>
+        requires { given_of self.old < 4294967295 }
+        ensures ticket { IfOk result (λ n. (n ≡ given_of self.new) × (given_of self.new ≡ given_of self.old + 1)) }
+        ensures fresh { IfOk result (λ n. held_of self.old n ≡ None) }
+        ensures held { IfOk result (λ n. held_of self.new n ≡ Some task) }
+        ensures others { IfOk result (λ n. (k : ℕ) → k ≢ n → held_of self.new k ≡ held_of self.old k) }
+        ensures err { OnErr result ((given_of self.new ≡ given_of self.old)
+            × ((k : ℕ) → held_of self.new k ≡ held_of self.old k)) }
+        ensures counts { (misses_of self.new ≡ misses_of self.old) × (returns_of self.new ≡ returns_of self.old) }
+
+        // Without memory the board was not asked.
+        ensures unasked { OnErr result (seat_of self.new ≡ seat_of self.old) }
+    {
         let task = Arc::new(self.alloc, task)?;
         let copy = Arc::try_clone(&task)?;
+        self.kept.reserve()?;
         let ticket = match self.board.put(self.rt, &mut self.seat, copy) {
             Ok(ticket) => Some(ticket),
             Err(PutFault::Memory(_)) => return Err(AllocError),
             Err(_) => None,
         };
-        self.kept.put(Kept { task, ticket })
+        Ok(self.kept.put_reserved(Kept { task, ticket }))
     }
 
-    fn fetch(&mut self, ticket: u32) -> Result<Option<W::Outcome>, AllocError> {
+    fn fetch(&mut self, ticket: u32) -> Result<Option<W::Outcome>, AllocError>
+        requires { IsSome (held_of self.old ticket) }
+        ensures right { IfOk result (λ o. IfSome o (λ outcome.
+            IfSome (held_of self.old ticket) (λ task. ∥ W.right (W.stands task) outcome ∥₁))) }
+        ensures gone { IfOk result (λ o. IfSome o (λ _. held_of self.new ticket ≡ None)) }
+        ensures missed { IfOk result (λ o. IfNone o (raised (misses_of self.old) ≤ misses_of self.new)) }
+        ensures stays { IfOk result (λ o. IfNone o (held_of self.new ticket ≡ held_of self.old ticket)) }
+        ensures err { OnErr result (held_of self.new ticket ≡ held_of self.old ticket) }
+        ensures others { (k : ℕ) → k ≢ ticket → held_of self.new k ≡ held_of self.old k }
+        ensures given { given_of self.new ≡ given_of self.old }
+        ensures counts { (misses_of self.old ≤ misses_of self.new) × (returns_of self.old ≤ returns_of self.new) }
+
+        // A miss is counted for none alone, once, and only where the board was asked or has not the task.
+        ensures once { IfOk result (λ o. IfNone o (misses_of self.new ≡ raised (misses_of self.old))) }
+        ensures returns { returns_of self.new ≡ returns_of self.old }
+        ensures found { IfOk result (λ o. IfSome o (λ _. misses_of self.new ≡ misses_of self.old)) }
+        ensures asked { IfOk result (λ o. IfNone o
+            (((seat_of self.old).made < (seat_of self.new).made) ⊎ IsOffBoard self.old ticket)) }
+        ensures unasked { OnErr result
+            ((misses_of self.new ≡ misses_of self.old) × (seat_of self.new ≡ seat_of self.old)) }
+    {
         let Some(kept) = self.kept.get(ticket) else {
             unreachable!();
         };
@@ -130,7 +161,20 @@ impl<'a, W: Work, L: Ledger, R: Wait> Helpers<W> for OverBoard<'a, W, L, R> {
         Ok(outcome)
     }
 
-    fn obtain(&mut self, ticket: u32) -> Obtained<W> {
+    fn obtain(&mut self, ticket: u32) -> Obtained<W>
+        requires { IsSome (held_of self.old ticket) }
+        ensures right { IfSome (held_of self.old ticket)
+            (λ task. IsObtained (W.right (W.stands task)) result task (returns_of self.old)
+            (returns_of self.new)) }
+        ensures gone { held_of self.new ticket ≡ None }
+        ensures others { (k : ℕ) → k ≢ ticket → held_of self.new k ≡ held_of self.old k }
+        ensures given { given_of self.new ≡ given_of self.old }
+        ensures counts { (misses_of self.old ≤ misses_of self.new) × (returns_of self.old ≤ returns_of self.new) }
+
+        // A return is counted for a task alone, once.
+        ensures misses { misses_of self.new ≡ misses_of self.old }
+        ensures returned { returns_of self.new ≡ returned result (returns_of self.old) }
+    {
         let Some(kept) = self.kept.remove(ticket) else {
             unreachable!();
         };

@@ -1,7 +1,7 @@
 //! Who calls a board.
 ghost use Rattle.std.specs.Prelude.{◌≡◌, ◌≤◌, ◌+◌, ◌-◌, ◌<◌, ◌^◌, true, length, vec_len};
 ghost use Rattle.std.specs.List.{sum_by};
-ghost use Rattle.task_board.specs.declared.event.Event.{Event};
+ghost use Rattle.task_board.specs.declared.event.BoardEvent.{BoardEvent};
 
 use crate::history::History;
 use std::marker::Model;

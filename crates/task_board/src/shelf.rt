@@ -1,5 +1,5 @@
 //! Values kept under numbers.
-ghost use Rattle.std.specs.Prelude.{◌≡◌, ◌≢◌, ℕ, ◌+◌, ◌<◌, [], None, Some, IfOk, OnErr, vec_len};
+ghost use Rattle.std.specs.Prelude.{◌≡◌, ◌≢◌, ℕ, ◌+◌, ◌<◌, [], None, Some, IfOk, OnErr, OnOk, vec_len, vec_capacity};
 ghost use Rattle.std.specs.Option.{option_copied};
 ghost use Rattle.task_board.specs.Numbers.{kept_at, put_at};
 
@@ -20,6 +20,30 @@ impl<T: Drop> Shelf<T> {
         }
     }
 
+    /// Takes the room for one more value.
+    pub fn reserve(&mut self) -> Result<(), AllocError>
+        ensures room { OnOk result (vec_len self.new.places < vec_capacity self.new.places) }
+        ensures same { self.new.places.items ≡ self.old.places.items }
+    {
+        self.places.reserve(1)?;
+        Ok(())
+    }
+
+    /// Keeps a value under the next number, for which there is room.
+    pub fn put_reserved(&mut self, value: T) -> u32
+        requires few { vec_len self.old.places < 4294967295 }
+        requires room { vec_len self.old.places < vec_capacity self.old.places }
+        ensures number { result ≡ vec_len self.new.places }
+        ensures more { vec_len self.new.places ≡ vec_len self.old.places + 1 }
+        ensures fresh { kept_at self.old.places.items result ≡ None }
+        ensures kept { kept_at self.new.places.items result ≡ Some value }
+        ensures others { (k : ℕ) → k ≢ result
+            → kept_at self.new.places.items k ≡ kept_at self.old.places.items k }
+    {
+        self.places.push(Some(value)).unwrap();
+        self.places.len() as u32
+    }
+
     /// Keeps a value under the next number.
     pub fn put(&mut self, value: T) -> Result<u32, AllocError>
         requires { vec_len self.old.places < 4294967295 }
@@ -31,8 +55,8 @@ impl<T: Drop> Shelf<T> {
             → kept_at self.new.places.items k ≡ kept_at self.old.places.items k) }
         ensures err { OnErr result (self.new.places.items ≡ self.old.places.items) }
     {
-        self.places.push(Some(value))?;
-        Ok(self.places.len() as u32)
+        self.reserve()?;
+        Ok(self.put_reserved(value))
     }
 
     /// The value under a number.

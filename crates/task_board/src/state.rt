@@ -2,7 +2,7 @@
 ghost use Rattle.std.specs.Prelude.{◌≡◌, ℕ, ◌+◌, ◌<◌, [], ◌∷◌, ◌++◌, length, map, is_some, IfOk, IfErr, IfSome, IsSome, MatchResult, OnErr, vec_len, vec_capacity, if◌then◌else◌};
 ghost use Rattle.std.specs.Bool.{OnTrue, OnFalse};
 ghost use Rattle.std.specs.Arc.{arc_value};
-ghost use Rattle.task_board.specs.declared.event.Step.TheVariants.{Post, GiveBack, Fetch, Close};
+ghost use Rattle.task_board.specs.declared.event.BoardStep.TheVariants.{Post, GiveBack, Fetch, Close};
 ghost use Rattle.task_board.specs.History.{with_event, Adds, is_next_step, replay_of};
 ghost use Rattle.task_board.specs.Numbers.{at_number, put_at};
 ghost use Rattle.task_board.specs.Contents.{things_in, things_at};

@@ -10,9 +10,10 @@ use std::sync::atomic::{AtomicU64, Ordering};
 use std::sync::ledger::{Blank, Ledger};
 use std::sync::{Arc, Wait};
 use std::test::*;
-use std::thread::{Threads, join_mut, yield_now};
+use std::thread::{Threads, join_mut, map_vec, yield_now};
 use task_board::{
-    Board, Event, Helpers, History, NoGate, Obtained, OverBoard, PutFault, Seat, Step, Work, serve,
+    Board, BoardEvent, BoardStep, Gate, Helpers, History, NoGate, Obtained, OverBoard, PutFault,
+    Seat, Work, serve,
 };
 
 /// Doubles a number, and raises a flag first.
@@ -240,6 +241,125 @@ fn fetched<'a, L: Ledger, R: Wait>(
     None
 }
 
+/// Tells that a search is to begin, and holds it back until it may.
+#[derive(Drop)]
+struct Held {
+    begun: AtomicU64,
+    may_begin: AtomicU64,
+}
+
+impl Gate for Held {
+    fn before(&self, _ticket: u32) {
+        self.begun.store(1, Ordering::SeqCst);
+        wait_for(&self.may_begin);
+    }
+}
+
+/// Returns once the flag is raised, or after very many turns.
+fn wait_for(flag: &AtomicU64) {
+    for _ in 0..1_000_000u32 {
+        if flag.load(Ordering::SeqCst) == 1 {
+            break;
+        }
+        yield_now();
+    }
+}
+
+/// Both workers wait before a task is put, and again before the board is closed: a put that woke none of them would
+/// have its task come back, and a close that left one asleep would never end.
+#[test]
+fn workers_that_wait_are_woken(rt: HostRuntime) -> Result<(), Fail> {
+    owner_and_two_workers::<Brand, _>(&rt, rt.alloc(), Blank::new(3))
+}
+
+fn owner_and_two_workers<L: Ledger + Send + Sync, R: Threads + Wait + Abort + Sync>(
+    rt: &R,
+    alloc: Global,
+    blank: Blank,
+) -> Result<(), Fail>
+    requires name { blank.name ≡ L.name }
+    requires parts { blank.parts ≡ L.parts }
+    requires three { blank.parts ≡ 3 }
+{
+    let work = make_doubling();
+    let gate = Held {
+        begun: AtomicU64::new(0),
+        may_begin: AtomicU64::new(0),
+    };
+    let (board, mut seats) = Board::<Doubling, L>::open(alloc, blank, 3)?;
+    let mut owner = seats.pop();
+    let mut workers = Some(seats);
+    let (_, answers) = join_mut(
+        rt,
+        &mut || match workers.take() {
+            Some(seats) => serve_on(rt, alloc, &board, seats, &work, &gate),
+            None => {}
+        },
+        &mut || match owner.take() {
+            Some(seat) => own_held(rt, alloc, &board, &work, &gate, seat),
+            None => None,
+        },
+    );
+    assert_eq!(rt; answers, Some((6, 8)));
+    Ok(())
+}
+
+/// Serves on each seat in a thread of its own.
+fn serve_on<L: Ledger + Send + Sync, R: Threads + Wait + Sync>(
+    rt: &R,
+    alloc: Global,
+    board: &Board<Doubling, L>,
+    seats: Vec<Seat<L>>,
+    work: &Doubling,
+    gate: &Held,
+) {
+    let _ = map_vec(rt, seats, &|seat| serve(rt, alloc, board, seat, work, gate));
+}
+
+/// Puts two tasks while the workers wait, has both outcomes, and closes the board while the workers wait again.
+fn own_held<L: Ledger, R: Wait>(
+    rt: &R,
+    alloc: Global,
+    board: &Board<Doubling, L>,
+    work: &Doubling,
+    gate: &Held,
+    seat: Seat<L>,
+) -> Option<(u64, u64)> {
+    let mut helpers = OverBoard::new(rt, alloc, board, work, seat);
+    pause();
+    let answers = held_then_served(&mut helpers, gate);
+    pause();
+    let mut seat = helpers.into_seat();
+    board.close(rt, &mut seat);
+    answers
+}
+
+/// Lets the other threads run.
+fn pause() {
+    for _ in 0..20_000u32 {
+        yield_now();
+    }
+}
+
+/// The outcome of a task that is held back when it is fetched, which is then waited for, and that of a second one.
+fn held_then_served<'a, L: Ledger, R: Wait>(
+    helpers: &mut OverBoard<'a, Doubling, L, R>,
+    gate: &Held,
+) -> Option<(u64, u64)>
+    requires { ⟦<OverBoard<'a, Doubling, L, R> as Helpers<Doubling>>⟧.given helpers.old ≡ 0 }
+{
+    let ticket = helpers.put(3).ok()?;
+    wait_for(&gate.begun);
+    if helpers.fetch(ticket).ok()?.is_some() {
+        return None;
+    }
+    gate.may_begin.store(1, Ordering::SeqCst);
+    let first = posted(helpers.obtain(ticket)).ok()?;
+    let ticket = helpers.put(4).ok()?;
+    let second = fetched(helpers, ticket)?;
+    Some((first, second))
+}
+
 #[test]
 fn a_take_or_obtain_may_have_to_wait(rt: HostRuntime) -> Result<(), Fail> {
     let mut history = History::open(rt.alloc())?;
@@ -327,25 +447,25 @@ fn last_answers<L: Ledger, R: Wait + Abort>(
     Ok(())
 }
 
-fn same_events(rt: &impl Abort, events: &[Event]) {
+fn same_events(rt: &impl Abort, events: &[BoardEvent]) {
     let expected = [
-        (0, Step::Put(Some(1))),
-        (0, Step::Put(Some(2))),
-        (0, Step::Put(Some(3))),
-        (1, Step::Take(Some(1))),
-        (1, Step::Post(1)),
-        (1, Step::Fetch(1, false)),
-        (0, Step::Obtain(1, true)),
-        (0, Step::Obtain(2, false)),
-        (1, Step::Take(Some(3))),
-        (1, Step::GiveBack(3)),
-        (0, Step::Fetch(3, false)),
-        (0, Step::Obtain(3, false)),
-        (0, Step::Fetch(9, false)),
-        (1, Step::Close),
-        (0, Step::Close),
-        (0, Step::Take(None)),
-        (0, Step::Put(None)),
+        (0, BoardStep::Put(Some(1))),
+        (0, BoardStep::Put(Some(2))),
+        (0, BoardStep::Put(Some(3))),
+        (1, BoardStep::Take(Some(1))),
+        (1, BoardStep::Post(1)),
+        (1, BoardStep::Fetch(1, false)),
+        (0, BoardStep::Obtain(1, true)),
+        (0, BoardStep::Obtain(2, false)),
+        (1, BoardStep::Take(Some(3))),
+        (1, BoardStep::GiveBack(3)),
+        (0, BoardStep::Fetch(3, false)),
+        (0, BoardStep::Obtain(3, false)),
+        (0, BoardStep::Fetch(9, false)),
+        (1, BoardStep::Close),
+        (0, BoardStep::Close),
+        (0, BoardStep::Take(None)),
+        (0, BoardStep::Put(None)),
     ];
     assert_eq!(rt; events.len(), expected.len());
     for (event, (seat, step)) in events.iter().zip(expected) {

@@ -1,5 +1,5 @@
 use Rattle.std.proofs.Common.{◌≡◌, ◌-◌, ◌++◌, ◌∷◌, [], length, refl, ap, arith, length-append, length-set}
-use Rattle.task_board.specs.declared.event.Event.{Event}
+use Rattle.task_board.specs.declared.event.BoardEvent.{BoardEvent}
 use Rattle.task_board.specs.declared.event.Ticket.{Ticket}
 use Rattle.task_board.specs.History.{replay_of}
 use Rattle.task_board.specs.Invariant.{kept_replay}
@@ -39,7 +39,7 @@ unwrap-requires c =
 
 pub invariant_of-self : goal.invariant_of-self
 invariant_of-self c =
-    let e : Event = record { seat = c.args.seat; step = c.args.step } in
+    let e : BoardEvent = record { seat = c.args.seat; step = c.args.step } in
     let h = c.self.inside in
     let d = c.index-ticket.result.now in
     let is : replay_of c.args.self.now ≡ kept_replay h = rw (← c.self.view_is) c.self.invariant.replayed in

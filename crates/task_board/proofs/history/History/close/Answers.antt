@@ -1,6 +1,6 @@
 use Rattle.std.proofs.Common.{◌≡◌, ◌<◌, ◌++◌, ◌∷◌, [], length, refl, ap, arith, length-append, length-set}
-use Rattle.task_board.specs.declared.event.Event.{Event}
-use Rattle.task_board.specs.declared.event.Step.TheVariants.{Close}
+use Rattle.task_board.specs.declared.event.BoardEvent.{BoardEvent}
+use Rattle.task_board.specs.declared.event.BoardStep.TheVariants.{Close}
 use Rattle.task_board.specs.History.{replay_of}
 use Rattle.task_board.specs.Invariant.{kept_replay}
 use Rattle.task_board.proofs.Replays.{replayed_next, legal_next}
@@ -9,7 +9,7 @@ use Rattle.task_board.proofs.history.History.close.Goals as goal
 
 pub invariant_of-self : goal.invariant_of-self
 invariant_of-self c =
-    let e : Event = record { seat = c.args.seat; step = Close } in
+    let e : BoardEvent = record { seat = c.args.seat; step = Close } in
     let h = c.self.inside in
     let more : c.push.new.self.items ≡ h.events.items ++ e ∷ [] = rw c.unwrap.ensures at c.push.ensures.items in
     let within : c.args.seat < length h.has_closed = omega (arith, c.self.invariant.seats.0, c.requires) in

@@ -1,8 +1,8 @@
 use Rattle.std.proofs.Common.{◌≡◌, ◌<◌, ◌+◌, ◌++◌, ◌∷◌, [], Some, false, length, refl, ap, arith, length-append}
-use Rattle.task_board.specs.declared.event.Event.{Event}
+use Rattle.task_board.specs.declared.event.BoardEvent.{BoardEvent}
 use Rattle.task_board.specs.declared.event.Ticket.{Ticket}
 use Rattle.task_board.specs.declared.event.Stand.TheVariants.{Waiting}
-use Rattle.task_board.specs.declared.event.Step.TheVariants.{Put}
+use Rattle.task_board.specs.declared.event.BoardStep.TheVariants.{Put}
 use Rattle.task_board.specs.History.{replay_of}
 use Rattle.task_board.specs.Invariant.{kept_replay}
 use Rattle.task_board.proofs.Replays.{replayed_next, legal_next}
@@ -14,7 +14,7 @@ use Rattle.task_board.proofs.history.History.issue.Goals as goal
 pub invariant_of-self-2 : goal.invariant_of-self-2
 invariant_of-self-2 c =
     let n = c.len.result + 1 in
-    let e : Event = record { seat = c.args.seat; step = Put (Some n) } in
+    let e : BoardEvent = record { seat = c.args.seat; step = Put (Some n) } in
     let t : Ticket = record { owner = c.args.seat; stand = Waiting } in
     let h = c.self.inside in
     let is : replay_of c.args.self.now ≡ kept_replay h = rw (← c.self.view_is) c.self.invariant.replayed in

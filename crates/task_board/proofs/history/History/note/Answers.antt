@@ -1,5 +1,5 @@
 use Rattle.std.proofs.Common.{◌≡◌, ◌++◌, ◌∷◌, [], length, refl, ap, arith, length-append}
-use Rattle.task_board.specs.declared.event.Event.{Event}
+use Rattle.task_board.specs.declared.event.BoardEvent.{BoardEvent}
 use Rattle.task_board.specs.History.{replay_of}
 use Rattle.task_board.specs.Invariant.{kept_replay}
 use Rattle.task_board.proofs.Replays.{replayed_next, legal_next}
@@ -7,7 +7,7 @@ use Rattle.task_board.proofs.history.History.note.Goals as goal
 
 pub invariant_of-self-2 : goal.invariant_of-self-2
 invariant_of-self-2 c =
-    let e : Event = record { seat = c.args.seat; step = c.args.step } in
+    let e : BoardEvent = record { seat = c.args.seat; step = c.args.step } in
     let h = c.self.inside in
     let room = c.in_ok-reserve.ensures.ok in
     let same = c.in_ok-reserve.ensures.items in

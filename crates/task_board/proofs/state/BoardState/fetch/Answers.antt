@@ -1,5 +1,5 @@
 use Rattle.std.proofs.Common.{◌∙◌, Some, true, false, ap, arith, map}
-use Rattle.task_board.specs.declared.event.Step.TheVariants.{Fetch}
+use Rattle.task_board.specs.declared.event.BoardStep.TheVariants.{Fetch}
 use Rattle.task_board.specs.Answers.{event}
 use Rattle.task_board.specs.Contents.{things_in}
 use Rattle.task_board.proofs.Fitting.{map-put_at, there_at, things_there, adds_grows, missed_fits, fetch_fits}

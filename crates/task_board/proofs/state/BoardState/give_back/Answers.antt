@@ -1,5 +1,5 @@
 use Rattle.std.proofs.Common.{arith, map}
-use Rattle.task_board.specs.declared.event.Step.TheVariants.{GiveBack}
+use Rattle.task_board.specs.declared.event.BoardStep.TheVariants.{GiveBack}
 use Rattle.task_board.specs.Answers.{event}
 use Rattle.task_board.specs.Contents.{things_in}
 use Rattle.task_board.proofs.Fitting.{added_grows, give_back_fits}

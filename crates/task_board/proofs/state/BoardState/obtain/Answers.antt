@@ -1,5 +1,5 @@
 use Rattle.std.proofs.Common.{◌∙◌, Some, ap, arith, map}
-use Rattle.task_board.specs.declared.event.Step.TheVariants.{Obtain}
+use Rattle.task_board.specs.declared.event.BoardStep.TheVariants.{Obtain}
 use Rattle.task_board.specs.Answers.{event}
 use Rattle.task_board.specs.Contents.{things_in}
 use Rattle.task_board.proofs.Fitting.{map-put_at, things_there, adds_grows, obtain_fits, take_out_fits}

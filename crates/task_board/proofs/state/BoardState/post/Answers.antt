@@ -1,5 +1,5 @@
 use Rattle.std.proofs.Common.{◌∙◌, sym, ap, arith, map, refl}
-use Rattle.task_board.specs.declared.event.Step.TheVariants.{Post}
+use Rattle.task_board.specs.declared.event.BoardStep.TheVariants.{Post}
 use Rattle.task_board.specs.Answers.{event}
 use Rattle.task_board.specs.Contents.{things_in}
 use Rattle.task_board.proofs.Fitting.{map-put_at, adds_grows, added_next, post_fits}

@@ -1,5 +1,5 @@
 use Rattle.std.proofs.Common.{Some, None, arith, map}
-use Rattle.task_board.specs.declared.event.Step.TheVariants.{Take}
+use Rattle.task_board.specs.declared.event.BoardStep.TheVariants.{Take}
 use Rattle.task_board.specs.Answers.{event}
 use Rattle.task_board.specs.Contents.{things_in}
 use Rattle.task_board.proofs.Fitting.{map-put_at, things_there, added_grows, adds_grows, take_fits, told_fits}
