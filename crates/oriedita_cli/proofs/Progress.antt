@@ -8,10 +8,10 @@ use Rattle.worker_split.specs.declared.answers.Taken.TheVariants.{Accepted, Stra
 use Rattle.worker_split.specs.Tasks.{task_of, IsRightOutcome}
 use Rattle.fold_jobs.specs.Machine.{JobsView, MatchesIn, IsPosted}
 use Rattle.fold_jobs.specs.Waiting.{waiting_in}
-use Rattle.oriedita_cli.specs.declared.tickets.Ticket.{Ticket}
+use Rattle.oriedita_cli.specs.declared.tickets.HeldTicket.{HeldTicket}
 use Rattle.oriedita_cli.specs.Tickets.{IsTicketFor}
 
-pub fewer_waiting : (s s' : JobsView) (held : ℕ → Option Task) (job number : ℕ) (old new rest : List Ticket)
+pub fewer_waiting : (s s' : JobsView) (held : ℕ → Option Task) (job number : ℕ) (old new rest : List HeldTicket)
     (x y : Outcome) (task : Task) (taken : Taken) → IsTicketFor held s job number old new
     → held number ≡ Some task → IsRightOutcome (task_of task) x → x.job ≡ job → length rest + 1 ≤ length new
     → IsPosted s y taken s' → (MatchesIn s x → taken ≡ Accepted)

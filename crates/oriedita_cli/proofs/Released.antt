@@ -9,7 +9,7 @@ use Rattle.worker_split.specs.Tasks.{task_of, IsRightOutcome}
 use Rattle.fold_jobs.specs.Machine.{JobsView, IsRightIn, MatchesIn}
 use Rattle.job_register.specs.Counts.{accepted_outcomes}
 use Rattle.job_register.specs.View.{SessionView}
-use Rattle.oriedita_cli.specs.declared.tickets.Ticket.{Ticket}
+use Rattle.oriedita_cli.specs.declared.tickets.HeldTicket.{HeldTicket}
 use Rattle.oriedita_cli.specs.declared.tickets.Tickets.{Tickets}
 use Rattle.oriedita_cli.specs.Tickets.{released, is_other, IsListed, IsHeldFor, AreHeld, MayBePosted, IsHelped, IsTicketFor}
 
@@ -65,7 +65,7 @@ released_put held held' n given given' task named next now others =
 eqb_same : (m : ℕ) → (m == m) ≡ true
 eqb_same m = eq-eqb m m refl
 
-pub held_at : (held : ℕ → Option Task) (number job : ℕ) (ts : List Ticket) → AreHeld held ts
+pub held_at : (held : ℕ → Option Task) (number job : ℕ) (ts : List HeldTicket) → AreHeld held ts
     → IsListed number job ts → IsHeldFor held number job
 held_at held number job [] all listed = absurd listed
 held_at held number job (t ∷ ts) all (inl (same, own)) =
@@ -76,7 +76,7 @@ held_as : (held held' : ℕ → Option Task) (number job : ℕ) → held' number
     → IsHeldFor held number job → IsHeldFor held' number job
 held_as held held' number job same (task, was, own) = (task, same ∙ was, own)
 
-all_as : (held held' : ℕ → Option Task) (ts : List Ticket)
+all_as : (held held' : ℕ → Option Task) (ts : List HeldTicket)
     → ((k : ℕ) → IsSome (held k) → held' k ≡ held k) → AreHeld held ts → AreHeld held' ts
 all_as held held' [] same all = tt
 all_as held held' (t ∷ ts) same all = (
@@ -84,7 +84,7 @@ all_as held held' (t ∷ ts) same all = (
   all_as held held' ts same all.1,
 )
 
-all_others : (held held' : ℕ → Option Task) (n : ℕ) (ts : List Ticket) → SameBut held held' n → AreHeld held ts
+all_others : (held held' : ℕ → Option Task) (n : ℕ) (ts : List HeldTicket) → SameBut held held' n → AreHeld held ts
     → AreHeld held' (filter (is_other n) ts)
 all_others held held' n [] others all = tt
 all_others held held' n (t ∷ ts) others all = elim (cases_eq t.number n) [
@@ -96,16 +96,16 @@ all_others held held' n (t ∷ ts) others all = elim (cases_eq t.number n) [
       rw keep (held_as held held' t.number t.job (others t.number apart) all.0, all_others held held' n ts others all.1)
 ]
 
-pub all_pushed : (held : ℕ → Option Task) (ts : List Ticket) (t : Ticket) → AreHeld held ts
+pub all_pushed : (held : ℕ → Option Task) (ts : List HeldTicket) (t : HeldTicket) → AreHeld held ts
     → IsHeldFor held t.number t.job → AreHeld held (ts ++ t ∷ [])
 all_pushed held [] t all own = (own, tt)
 all_pushed held (u ∷ ts) t all own = (all.0, all_pushed held ts t all.1 own)
 
-pub listed_pushed : (ts : List Ticket) (t : Ticket) → IsListed t.number t.job (ts ++ t ∷ [])
+pub listed_pushed : (ts : List HeldTicket) (t : HeldTicket) → IsListed t.number t.job (ts ++ t ∷ [])
 listed_pushed [] t = inl (refl, refl)
 listed_pushed (u ∷ ts) t = inr (listed_pushed ts t)
 
-others_few : (n : ℕ) (ts : List Ticket) → length (filter (is_other n) ts) ≤ length ts
+others_few : (n : ℕ) (ts : List HeldTicket) → length (filter (is_other n) ts) ≤ length ts
 others_few n [] = omega arith
 others_few n (t ∷ ts) =
     let rest = others_few n ts in
@@ -114,7 +114,7 @@ others_few n (t ∷ ts) =
       | inr own ↦ rw own (omega (arith, rest))
     ]
 
-pub others_fewer : (n job : ℕ) (ts : List Ticket) → IsListed n job ts
+pub others_fewer : (n job : ℕ) (ts : List HeldTicket) → IsListed n job ts
     → length (filter (is_other n) ts) + 1 ≤ length ts
 others_fewer n job [] listed = absurd listed
 others_fewer n job (t ∷ ts) (inl (same, own)) =
@@ -131,8 +131,8 @@ others_fewer n job (t ∷ ts) (inr rest) =
 -- ---- the ticket that is asked for next
 
 -- a new one
-pub new_ticket : (held : ℕ → Option Task) (s : JobsView) (job number : ℕ) (old new : List Ticket) (task : Task)
-    (t : Ticket) → t.number ≡ number → t.job ≡ task.job → task.job ≡ job → new ≡ old ++ t ∷ []
+pub new_ticket : (held : ℕ → Option Task) (s : JobsView) (job number : ℕ) (old new : List HeldTicket) (task : Task)
+    (t : HeldTicket) → t.number ≡ number → t.job ≡ task.job → task.job ≡ job → new ≡ old ++ t ∷ []
     → held number ≡ Some task → ((x : Outcome) → IsRightOutcome (task_of task) x → MatchesIn s x)
     → IsTicketFor held s job number old new
 new_ticket held s job number old new task t named own mine list was matches = record {
@@ -146,7 +146,7 @@ new_ticket held s job number old new task t named own mine list was matches = re
 }
 
 pub ticket_held : (held : ℕ → Option Task) (given : ℕ) (s : SessionView) (ts : Tickets) (job number : ℕ)
-    (old : List Ticket) → IsHelped held given s ts → IsTicketFor held s.state.jobs job number old ts.list.items
+    (old : List HeldTicket) → IsHelped held given s ts → IsTicketFor held s.state.jobs job number old ts.list.items
     → IsHeldFor held number job
 ticket_held held given s ts job number old h ticket = held_at held number job ts.list.items h.listed ticket.listed
 
@@ -223,7 +223,7 @@ helped_taken held held' given given' s s' ts ts' n task was gone others size cou
 pub helped_put : (held held' : ℕ → Option Task) (given given' : ℕ) (s : SessionView) (ts ts' : Tickets)
     (n : ℕ) (task : Task) → n ≡ given' → given' ≡ given + 1 → held n ≡ None → held' n ≡ Some task
     → SameBut held held' n → ts'.given ≡ ts.given + 1
-    → (t : Ticket) → t.number ≡ n → t.job ≡ task.job → ts'.list.items ≡ ts.list.items ++ t ∷ []
+    → (t : HeldTicket) → t.number ≡ n → t.job ≡ task.job → ts'.list.items ≡ ts.list.items ++ t ∷ []
     → MayBePosted s.state.jobs task → IsHelped held given s ts → IsHelped held' given' s ts'
 helped_put held held' given given' s ts ts' n task named next was now others counted t number job list may h =
     record {

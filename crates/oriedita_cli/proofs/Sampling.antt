@@ -29,7 +29,7 @@ use Rattle.job_register.specs.Text.{text_of}
 use Rattle.job_register.specs.View.{SessionView}
 use Rattle.cp_text.specs.Sample.{sample_lines}
 use Rattle.oriedita_cli.specs.Samples.{asks_in_turn, numbered_from, sample_commands, ends_by, ends_asks, EndsLast, AsksOn, AreSampled}
-use Rattle.oriedita_cli.specs.Serving.{AnswersNext, GoesOn, IsAskedOn, StopsIn}
+use Rattle.oriedita_cli.specs.Serving.{AnswersNext, OnlyPosts, IsAskedOn, StopsIn}
 
 -- ---- the event that ends the asks
 
@@ -140,7 +140,7 @@ another_asks s t n r asked unended = from (ask_answer s.jobs n) refl (ap is_refu
 pub posted_goes_on : (s t : SessionView) (x y : Outcome) (taken : Taken) (accepted : Bool)
     → IsPosted s.state.jobs x taken t.state.jobs → t.events ≡ s.events ++ Posted y accepted ∷ []
     → text_of t.events ≡ text_of s.events → commands_in t.events ≡ commands_in s.events
-    → running_replies t.events ≡ running_replies s.events → t.state.jobs.most ≡ s.state.jobs.most → GoesOn s t
+    → running_replies t.events ≡ running_replies s.events → t.state.jobs.most ≡ s.state.jobs.most → OnlyPosts s t
 posted_goes_on s t x y taken accepted posted event text commands running most = record {
   commands = commands;
   text = text;

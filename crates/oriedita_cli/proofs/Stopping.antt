@@ -9,7 +9,7 @@ use Rattle.job_register.specs.declared.session.Event.{Event}
 use Rattle.job_register.specs.Legal.{commands_in}
 use Rattle.job_register.specs.Text.{text_of}
 use Rattle.job_register.specs.View.{SessionView}
-use Rattle.oriedita_cli.specs.Serving.{Serves, StopsIn, GoesOn}
+use Rattle.oriedita_cli.specs.Serving.{Serves, StopsIn, OnlyPosts}
 
 -- what holds in any case holds after an error
 pub on_any : {A E : Type 0} (r : Result A E) (P : Type 0) → P → OnErr r P
@@ -87,10 +87,10 @@ serves_then_stops es fs gs t u v commands more rest first second = record {
 
 -- ---- outcomes that are taken between commands
 
-pub goes_nowhere : (s : SessionView) → GoesOn s s
+pub goes_nowhere : (s : SessionView) → OnlyPosts s s
 goes_nowhere s = record { commands = refl; text = refl; running = refl; most = refl; asks = refl; ends = refl }
 
-pub goes_both : (r s t : SessionView) → GoesOn r s → GoesOn s t → GoesOn r t
+pub goes_both : (r s t : SessionView) → OnlyPosts r s → OnlyPosts s t → OnlyPosts r t
 goes_both r s t first second = record {
   commands = second.commands ∙ first.commands;
   text = second.text ∙ first.text;

@@ -1,6 +1,6 @@
 -- The clauses of the top call, by its exit status.
-use Rattle.std.specs.Prelude.{◌≡◌, ℕ, ◌+◌, ◌<◌, ◌≤◌, ◌⊎◌, Bool, true, List, [], ◌∷◌, ◌++◌, Option, None, Some, length, if◌then◌else◌}
-use Rattle.std.specs.Io.KnownBytes.{Appends, Keeps}
+use Rattle.std.specs.Prelude.{◌≡◌, ℕ, ◌+◌, ◌<◌, ◌≤◌, ◌⊎◌, Bool, true, List, [], ◌∷◌, ◌++◌, Option, None, Some, IsSome, length, if◌then◌else◌}
+use Rattle.std.specs.Io.KnownBytes.{Appends, Consumes, IsAtEnd, Keeps}
 use Rattle.oriedita_io.specs.Faults.{Rose}
 use Rattle.oriedita_io.specs.Told.{ReadsUpTo, Tells}
 use Rattle.script_lang.specs.declared.command.Command.{Command}
@@ -113,3 +113,44 @@ pub record IsOutput (status : ℕ) (text : List ℕ) (taken taken' : Option (Lis
 -- The statuses of a run that came to its end: 0 where no reply is a refusal, and 1 where one is.
 abbrev pub ended_status : List Event → ℕ
 ended_status events = if has_refusal events then 1 else 0
+
+-- ---- what a run read, and how it ended
+
+-- The input clause: what a run took from the source of the script and from the opener, and what it answered to it. Both are
+-- before and after it, and so are their faults.
+pub record AnswersInput {S O : Type 0} (file : ToldFiles) (sample : Option ℕ) (path : Option (List ℕ))
+    (status : ℕ) (events : List Event) (script script' : S) (files files' : O) (left left' : Option (List ℕ))
+    (openings openings' faults faults' : ℕ) : Type 0 where
+  -- the source lost these bytes, and the commands are those of the input
+  pub bytes : List ℕ
+  pub lost : Consumes left left' bytes
+  pub run : IsRun file sample path status events bytes openings openings' faults faults'
+  -- a script that is answered to its end was read to its end
+  pub to_its_end : sample ≡ None → status < 2 → IsAtEnd left'
+  -- for a sample nothing is read, and where no file is named none is opened
+  pub unread : IsSome sample → script' ≡ script
+  pub unopened : (IsSome sample) ⊎ (path ≡ None) → files' ≡ files
+
+-- the faults so far, of the source of the script, of the opener and of the sink
+pub record Faults : Type 0 where
+  pub script : ℕ
+  pub files : ℕ
+  pub out : ℕ
+
+abbrev pub faults_of : ℕ → ℕ → ℕ → Faults
+faults_of script files out = record { script = script; files = files; out = out }
+
+-- The status clause: the exit status by its causes, which are the faults that came, and the file that is named.
+pub record IsStatus (status : ℕ) (events : List Event) (path : Option (List ℕ)) (before now : Faults)
+    : Type 0 where
+  pub bound : status ≤ 6
+  -- 0 and 1 come where no read failed: 1 where some reply is a refusal
+  pub ended : status < 2 → status ≡ ended_status events
+  pub read : status < 2 → (now.script ≡ before.script) × (now.files ≡ before.files)
+  -- 3 comes only where a read of the script failed, or the file that is named could not be read
+  pub unread : status ≡ 3 → Rose before.script now.script ⊎ (IsSome path × Rose before.files now.files)
+  -- 4 comes exactly where a write failed, or the end of the output
+  pub unwritten : status ≡ 4 → Rose before.out now.out
+  pub written : (status ≡ 4 → ⊥) → now.out ≡ before.out
+  -- no count falls
+  pub rise : (before.script ≤ now.script) × (before.files ≤ now.files) × (before.out ≤ now.out)

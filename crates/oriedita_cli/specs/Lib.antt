@@ -7,3 +7,4 @@ pub mod Reading
 pub mod Samples
 pub mod Errands
 pub mod Opening
+pub mod Starting

@@ -1,5 +1,5 @@
 -- What is read before the first command is answered.
-use Rattle.std.specs.Prelude.{◌≡◌, ⊤, ℕ, ◌<◌, ◌≤◌, ◌⊎◌, List, [], ◌++◌, Option, None, Some, length}
+use Rattle.std.specs.Prelude.{◌≡◌, ⊤, ℕ, ◌<◌, ◌≤◌, ◌⊎◌, List, [], ◌++◌, Option, None, Some, IsSome, length}
 use Rattle.oriedita_io.specs.Faults.{Rose}
 use Rattle.script_lang.specs.declared.command.Command.{Command}
 use Rattle.script_lang.specs.Script.{commands_of}
@@ -33,6 +33,7 @@ pub record IsScript (file : ToldFiles) (path : Option (List ℕ)) (reading : Rea
 -- The file gave no command, so nothing of the script was read; the faults are the opener's.
 pub record IsNoFile (file : ToldFiles) (path : Option (List ℕ)) (fault : Unread) (bytes : List ℕ)
     (faults faults' : ℕ) : Type 0 where
+  pub named : IsSome path
   pub unread : bytes ≡ []
   pub failed : fault ≡ Failed → Rose faults faults'
   pub long : fault ≡ TooLong → IsTooLong file path
@@ -46,9 +47,18 @@ IsReading file sample path (NoFile fault) bytes openings openings' faults faults
 IsReading file sample path reading bytes openings openings' faults faults' =
     (sample ≡ None) × IsScript file path reading bytes faults faults'
 
+-- the script was read to its end
 abbrev pub IsWhole : Reading → Type 0
 IsWhole (Whole commands) = ⊤
 IsWhole (Cut commands) = ⊥
 IsWhole (Nothing status) = ⊥
 IsWhole (NoFile fault) = ⊥
 IsWhole (Sample n) = ⊥
+
+-- nothing of the script was read: the file that is named could not be, or a sample is to be folded
+abbrev pub IsUntouched : Reading → Type 0
+IsUntouched (Whole commands) = ⊥
+IsUntouched (Cut commands) = ⊥
+IsUntouched (Nothing status) = ⊥
+IsUntouched (NoFile fault) = ⊤
+IsUntouched (Sample n) = ⊤

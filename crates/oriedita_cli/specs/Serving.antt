@@ -35,7 +35,7 @@ pub record StopsIn (old new : List Event) (taken taken' : Option (List ℕ))
   pub written : Appends taken taken' text
 
 -- a session that takes outcomes alone goes on: what is counted of its commands, its text, its replies and its asks stays
-pub record GoesOn (old new : SessionView) : Type 0 where
+pub record OnlyPosts (old new : SessionView) : Type 0 where
   pub commands : commands_in new.events ≡ commands_in old.events
   pub text : text_of new.events ≡ text_of old.events
   pub running : running_replies new.events ≡ running_replies old.events
@@ -46,7 +46,7 @@ pub record GoesOn (old new : SessionView) : Type 0 where
 -- outcomes are taken, and then the command is answered
 pub record AnswersNext (old new : SessionView) (command : Command) : Type 0 where
   pub between : SessionView
-  pub goes_on : GoesOn old between
+  pub goes_on : OnlyPosts old between
   pub reply : Reply
   pub answer : IsAnswered between.state command reply new.state
   pub event : new.events ≡ between.events ++ Made command reply ∷ []

@@ -8,7 +8,7 @@ use Rattle.fold_jobs.specs.Machine.{JobsView, MatchesIn, IsRightIn}
 use Rattle.job_register.specs.declared.session.Event.{Event}
 use Rattle.job_register.specs.Counts.{running_replies, accepted_outcomes}
 use Rattle.job_register.specs.View.{SessionView}
-use Rattle.oriedita_cli.specs.declared.tickets.Ticket.{Ticket}
+use Rattle.oriedita_cli.specs.declared.tickets.HeldTicket.{HeldTicket}
 use Rattle.oriedita_cli.specs.declared.tickets.Tickets.{Tickets}
 
 -- how many of the tickets 1 to `given` are held no more
@@ -22,19 +22,19 @@ abbrev pub AreMisses : ℕ → ℕ → List Event → List Event → Type 0
 AreMisses before now old new =
     now < 2 ^ 64 - 1 → running_replies new + before ≤ running_replies old + now
 
-abbrev pub is_other : ℕ → Ticket → Bool
+abbrev pub is_other : ℕ → HeldTicket → Bool
 is_other number t = not (t.number == number)
 
 -- the ticket is for the task of this piece of the job, with this budget
-abbrev pub is_for : ℕ → ℕ → ℕ → Ticket → Bool
+abbrev pub is_for : ℕ → ℕ → ℕ → HeldTicket → Bool
 is_for job piece budget t = t.job == job && t.piece == piece && t.budget == budget
 
 -- the number of the first ticket for that task
-abbrev pub first_number : ℕ → ℕ → ℕ → List Ticket → Option ℕ
+abbrev pub first_number : ℕ → ℕ → ℕ → List HeldTicket → Option ℕ
 first_number job piece budget ts = option_map (λ t. t.number) (find (is_for job piece budget) ts)
 
 -- a ticket of this number for a task of this job is in the list
-abbrev pub IsListed : ℕ → ℕ → List Ticket → Type 0
+abbrev pub IsListed : ℕ → ℕ → List HeldTicket → Type 0
 IsListed number job [] = ⊥
 IsListed number job (t ∷ ts) = ((t.number ≡ number) × (t.job ≡ job)) ⊎ IsListed number job ts
 
@@ -42,7 +42,7 @@ IsListed number job (t ∷ ts) = ((t.number ≡ number) × (t.job ≡ job)) ⊎ 
 abbrev pub IsHeldFor : (ℕ → Option Task) → ℕ → ℕ → Type 0
 IsHeldFor held number job = (task : Task) × (held number ≡ Some task) × (task.job ≡ job)
 
-abbrev pub AreHeld : (ℕ → Option Task) → List Ticket → Type 0
+abbrev pub AreHeld : (ℕ → Option Task) → List HeldTicket → Type 0
 AreHeld held [] = ⊤
 AreHeld held (t ∷ ts) = IsHeldFor held t.number t.job × AreHeld held ts
 
@@ -60,7 +60,7 @@ pub record IsHelped (held : ℕ → Option Task) (given : ℕ) (s : SessionView)
   pub outcomes : accepted_outcomes s.events ≤ released held given
 
 -- a ticket was in the list, or it is a new one whose outcome will be accepted
-pub record IsTicketFor (held : ℕ → Option Task) (s : JobsView) (job number : ℕ) (old new : List Ticket)
+pub record IsTicketFor (held : ℕ → Option Task) (s : JobsView) (job number : ℕ) (old new : List HeldTicket)
     : Type 0 where
   pub listed : IsListed number job new
   pub fits : (length new ≡ length old) ⊎ ((length new ≡ length old + 1)

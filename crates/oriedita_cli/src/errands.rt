@@ -1,6 +1,6 @@
 //! What a session is to do: to answer a script, or to fold a sample.
 
-ghost use Rattle.std.specs.Prelude.{◌≡◌, ℕ, ◌+◌, ◌-◌, ◌^◌, ◌<◌, ◌≤◌, ◌⊎◌, [], None, MatchResult, take};
+ghost use Rattle.std.specs.Prelude.{◌≡◌, ◌≢◌, ℕ, ◌+◌, ◌-◌, ◌^◌, ◌<◌, ◌≤◌, ◌⊎◌, [], None, MatchResult, take};
 ghost use Rattle.std.specs.Io.KnownBytes.{Appends};
 ghost use Rattle.oriedita_io.specs.Faults.{Rose};
 ghost use Rattle.job_register.specs.View.{record_events};
@@ -62,7 +62,8 @@ fn serve_errand<R: Threads + Sync, H: Helpers<Folding>, K: Sink>(
     ensures running { AreMisses (H.misses helpers.old) (H.misses helpers.new) session.old.events
         session.new.events }
     ensures cause { result ≡ Err Stop.Write → Rose (K.faults out.old) (K.faults out.new) }
-    ensures faults_stay { K.faults out.old ≤ K.faults out.new }
+    ensures faults_stay { result ≢ Err Stop.Write → K.faults out.new ≡ K.faults out.old }
+    ensures faults_rise { K.faults out.old ≤ K.faults out.new }
 {
     match errand {
         Errand::Script(commands) => serve_all(
@@ -104,7 +105,8 @@ pub(crate) fn do_errand<R: Threads + Sync, H: Helpers<Folding>, K: Sink>(
     ensures status { (result.status ≡ ended_status (record_events result.events))
         ⊎ ((result.status ≡ WRITE_FAILED) ⊎ (result.status ≡ NO_MEMORY)) }
     ensures cause { result.status ≡ WRITE_FAILED → Rose (K.faults out.old) (K.faults out.new) }
-    ensures faults_stay { K.faults out.old ≤ K.faults out.new }
+    ensures faults_stay { result.status ≢ WRITE_FAILED → K.faults out.new ≡ K.faults out.old }
+    ensures faults_rise { K.faults out.old ≤ K.faults out.new }
     // Each reply that no answer is there yet was told so by the helpers, and no outcome came but by its ticket.
     ensures running { H.misses helpers.new < 2 ^ 64 - 1
         → running_replies (record_events result.events) + H.misses helpers.old ≤ H.misses helpers.new }

@@ -9,11 +9,11 @@ ghost use Rattle.fold_jobs.specs.Waiting.{waiting_in};
 ghost use Rattle.job_register.specs.Machine.{IsReady};
 ghost use Rattle.job_register.specs.Counts.{peeks_too_early};
 ghost use Rattle.oriedita_io.specs.Faults.{Rose};
-ghost use Rattle.oriedita_cli.specs.Serving.{GoesOn};
+ghost use Rattle.oriedita_cli.specs.Serving.{OnlyPosts};
 ghost use Rattle.oriedita_cli.specs.Tickets.{MayBePosted, IsHelped, IsTicketFor};
 
 use crate::folding::Folding;
-use crate::tickets::{Ticket, Tickets};
+use crate::tickets::{HeldTicket, Tickets};
 use fold_jobs::laws::right_outcomes_stay;
 use job_register::Session;
 use script_lang::Command;
@@ -33,7 +33,7 @@ fn put_task<H: Helpers<Folding>>(
     requires right { MayBePosted session.now.state.jobs task }
     ensures helped { IsHelped (H.held helpers.new) (H.given helpers.new) session.now tickets.new }
     ensures held { IfOk result (λ number. H.held helpers.new number ≡ Some task) }
-    ensures listed { IfOk result (λ number. (ticket : Ticket)
+    ensures listed { IfOk result (λ number. (ticket : HeldTicket)
         × (ticket.number ≡ number) × (ticket.job ≡ task.job)
         × (tickets.new.list.items ≡ tickets.old.list.items ++ ticket ∷ [])) }
     ensures misses { H.misses helpers.new ≡ H.misses helpers.old }
@@ -49,7 +49,7 @@ fn put_task<H: Helpers<Folding>>(
     tickets.given += 1;
     tickets
         .list
-        .push(Ticket {
+        .push(HeldTicket {
             number,
             job,
             piece,
@@ -128,7 +128,7 @@ fn fetch_piece<H: Helpers<Folding>>(
     requires there { IsSome (task_in session.old.state.jobs job piece) }
     requires helped { IsHelped (H.held helpers.old) (H.given helpers.old) session.old tickets.old }
     ensures helped { IsHelped (H.held helpers.new) (H.given helpers.new) session.new tickets.new }
-    ensures goes_on { GoesOn session.old session.new }
+    ensures goes_on { OnlyPosts session.old session.new }
     ensures misses { H.misses helpers.old ≤ H.misses helpers.new }
     ensures missed { IfOk result
         (λ found. found ≡ false → Rose (H.misses helpers.old) (H.misses helpers.new)) }
@@ -161,7 +161,7 @@ fn obtain_piece<H: Helpers<Folding>>(
     requires there { IsSome (task_in session.old.state.jobs job piece) }
     requires helped { IsHelped (H.held helpers.old) (H.given helpers.old) session.old tickets.old }
     ensures helped { IsHelped (H.held helpers.new) (H.given helpers.new) session.new tickets.new }
-    ensures goes_on { GoesOn session.old session.new }
+    ensures goes_on { OnlyPosts session.old session.new }
     ensures misses { H.misses helpers.old ≤ H.misses helpers.new }
     ensures fewer { OnOk result (length tickets.new.list.items + waiting_in session.new.state.jobs job
         < length tickets.old.list.items + waiting_in session.old.state.jobs job) }
@@ -186,7 +186,7 @@ fn fetch_job<H: Helpers<Folding>>(
 ) -> Result<(), AllocError>
     requires { IsHelped (H.held helpers.old) (H.given helpers.old) session.old tickets.old }
     ensures helped { IsHelped (H.held helpers.new) (H.given helpers.new) session.new tickets.new }
-    ensures goes_on { GoesOn session.old session.new }
+    ensures goes_on { OnlyPosts session.old session.new }
     ensures misses { H.misses helpers.old ≤ H.misses helpers.new }
     ensures missed { OnOk result (IsSome (needed_in session.new.state.jobs job)
         → Rose (H.misses helpers.old) (H.misses helpers.new)) }
@@ -209,7 +209,7 @@ fn obtain_job<H: Helpers<Folding>>(
 ) -> Result<(), AllocError>
     requires { IsHelped (H.held helpers.old) (H.given helpers.old) session.old tickets.old }
     ensures helped { IsHelped (H.held helpers.new) (H.given helpers.new) session.new tickets.new }
-    ensures goes_on { GoesOn session.old session.new }
+    ensures goes_on { OnlyPosts session.old session.new }
     ensures misses { H.misses helpers.old ≤ H.misses helpers.new }
     ensures ready { OnOk result (needed_in session.new.state.jobs job ≡ None) }
 {
@@ -229,7 +229,7 @@ pub fn prepare<H: Helpers<Folding>>(
 ) -> Result<(), AllocError>
     requires { IsHelped (H.held helpers.old) (H.given helpers.old) session.old tickets.old }
     ensures helped { IsHelped (H.held helpers.new) (H.given helpers.new) session.new tickets.new }
-    ensures goes_on { GoesOn session.old session.new }
+    ensures goes_on { OnlyPosts session.old session.new }
     ensures misses { H.misses helpers.old ≤ H.misses helpers.new }
     ensures missed { OnOk result (peeks_too_early session.new.state command.now ≡ true
         → Rose (H.misses helpers.old) (H.misses helpers.new)) }

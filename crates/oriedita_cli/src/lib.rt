@@ -13,6 +13,7 @@ mod running;
 mod samples;
 mod serving;
 mod sessions;
+mod starting;
 mod tickets;
 mod workers;
 

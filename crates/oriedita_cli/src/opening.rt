@@ -1,6 +1,6 @@
 //! The commands of the file that the words name.
 
-ghost use Rattle.std.specs.Prelude.{◌≡◌, ◌∷◌, [], ◌+◌, ◌≤◌, Some, Err, IfOk, length, option_map, string_bytes};
+ghost use Rattle.std.specs.Prelude.{◌≡◌, ◌≢◌, ◌∷◌, [], ◌+◌, ◌≤◌, None, Some, Err, IfOk, IsSome, OnErr, length, option_map, string_bytes};
 ghost use Rattle.oriedita_io.specs.Faults.{Rose};
 ghost use Rattle.oriedita_io.specs.Told.{ReadsUpTo};
 ghost use Rattle.script_lang.specs.Script.{file_command};
@@ -50,7 +50,8 @@ fn read_whole_file<O: Opener>(alloc: Global, path: &str, files: &mut O) -> Resul
     ensures size { IfOk result (λ bytes. length bytes.items ≤ script_limit) }
     ensures failed { result ≡ Err Unread.Failed → Rose (O.faults files.old) (O.faults files.new) }
     ensures long { result ≡ Err Unread.TooLong → IsTooLong (O.file files.old) (Some path.now) }
-    ensures faults_stay { O.faults files.old ≤ O.faults files.new }
+    ensures faults_stay { result ≢ Err Unread.Failed → O.faults files.new ≡ O.faults files.old }
+    ensures faults_rise { O.faults files.old ≤ O.faults files.new }
 {
     let bytes = files.read_up_to(alloc, path, LONGEST_INPUT + 1)?;
     if bytes.len() > LONGEST_INPUT {
@@ -74,7 +75,8 @@ fn load_file<O: Opener>(alloc: Global, path: &str, files: &mut O) -> Result<Comm
     ensures ok { IfOk result (λ first. IsFirst (O.file files.old) (Some path.now) first) }
     ensures failed { result ≡ Err Unread.Failed → Rose (O.faults files.old) (O.faults files.new) }
     ensures long { result ≡ Err Unread.TooLong → IsTooLong (O.file files.old) (Some path.now) }
-    ensures faults_stay { O.faults files.old ≤ O.faults files.new }
+    ensures faults_stay { result ≢ Err Unread.Failed → O.faults files.new ≡ O.faults files.old }
+    ensures faults_rise { O.faults files.old ≤ O.faults files.new }
 {
     let bytes = read_whole_file(alloc, path, files)?;
     let first = file_commands(alloc, bytes.as_slice())?;
@@ -91,7 +93,10 @@ pub(crate) fn first_commands<O: Opener>(
     ensures failed { result ≡ Err Unread.Failed → Rose (O.faults files.old) (O.faults files.new) }
     ensures long { result ≡ Err Unread.TooLong
         → IsTooLong (O.file files.old) (option_map string_bytes path.now) }
-    ensures faults_stay { O.faults files.old ≤ O.faults files.new }
+    ensures named { OnErr result (IsSome path.now) }
+    ensures unopened { path.now ≡ None → files.new ≡ files.old }
+    ensures faults_stay { result ≢ Err Unread.Failed → O.faults files.new ≡ O.faults files.old }
+    ensures faults_rise { O.faults files.old ≤ O.faults files.new }
 {
     match path {
         Some(path) => load_file(alloc, path.as_str(), files),

@@ -1,17 +1,16 @@
 //! The whole program on a runtime: its words, files, standard input and output, and the exit status.
 
-ghost use Rattle.std.specs.Prelude.{◌≡◌, ℕ, ◌-◌, ◌<◌, ◌≤◌, ◌⊎◌, List, [], None, vec_len, IfErr, IfOk, IsSome};
-ghost use Rattle.std.specs.Io.KnownBytes.{Consumes, IsAtEnd};
+ghost use Rattle.std.specs.Prelude.{◌≡◌, ◌≤◌, ◌↔◌, ◌⊎◌, [], IfErr, IfOk};
+ghost use Rattle.std.specs.IoError.{error_kind};
 ghost use Rattle.std.specs.Process.{exit_status};
-ghost use Rattle.std.specs.Vec.Iter.{into_iter_len};
-ghost use Rattle.oriedita_io.specs.Faults.{Rose};
+ghost use Rattle.std.specs.Vec.Iter.{into_iter_items};
 ghost use Rattle.job_register.specs.View.{record_events};
 ghost use Rattle.job_register.specs.FoldingRecords.{EnumeratesOrders};
 ghost use Rattle.job_register.specs.Legal.{IsLegal};
-ghost use Rattle.oriedita_cli.specs.Clauses.{IsOutput, IsRun, ended_status, written_text};
-ghost use Rattle.oriedita_cli.specs.Words.{AreWordsOf, file_named, sample_named};
+ghost use Rattle.oriedita_cli.specs.Clauses.{AnswersInput, IsOutput, IsStatus, faults_of, written_text};
+ghost use Rattle.oriedita_cli.specs.Words.{AreJudged, behind_first, file_named, sample_named, words_told};
 
-use crate::running::{BAD_WORDS, Ended, NO_MEMORY, READ_FAILED, WRITE_FAILED, ended_without, run};
+use crate::running::{BAD_WORDS, Ended, NO_MEMORY, ended_without, run};
 use job_register::laws::records_enumerate;
 use oriedita_io::{FileOpener, Opener, Sink, Source, StdinSource, StdoutSink};
 use std::alloc::{AllocError, Global};
@@ -24,8 +23,9 @@ use std::thread::Threads;
 use std::{env, io};
 use task_board::{Gate, NoGate};
 
+// The arguments without the first one, which is the program's name.
 fn words_after_name(alloc: Global, mut arguments: Args) -> Result<Vec<String>, AllocError>
-    ensures { IfOk result (λ words. vec_len words ≡ into_iter_len arguments - 1) }
+    ensures { IfOk result (λ words. words.items ≡ behind_first (into_iter_items arguments)) }
 {
     let _name = arguments.next();
     let mut words = Vec::new(alloc);
@@ -47,25 +47,20 @@ fn run_told<R: Threads + Wait + Sync, S: Source, O: Opener, K: Sink, G: Gate + S
 ) -> Ended
     ensures legal { IsLegal 1 (record_events result.events) }
     ensures enumeration { EnumeratesOrders 1 (record_events result.events) }
-    ensures run { (words : List (List ℕ)) × AreWordsOf arguments result.status words
-        × IsOutput result.status (written_text (sample_named words) (record_events result.events))
-        (K.taken out.old) (K.taken out.new) (K.finished out.new)
-        × (IsSome (sample_named words) → (script.new ≡ script.old) × (files.new ≡ files.old))
-        × (sample_named words ≡ None → result.status < 2 → IsAtEnd (S.left script.new))
-        × ((bytes : List ℕ) × Consumes (S.left script.old) (S.left script.new) bytes
-        × IsRun (O.file files.old) (sample_named words) (file_named words) result.status
-        (record_events result.events) bytes (O.faults files.old) (O.faults files.new) (S.faults script.old)
-        (S.faults script.new)) }
-    ensures status { result.status ≤ 6 }
-    ensures refusals { result.status < 2 → result.status ≡ ended_status (record_events result.events) }
+    ensures input { AnswersInput (O.file files.old) (sample_named (words_told arguments))
+        (file_named (words_told arguments)) result.status (record_events result.events) script.old script.new
+        files.old files.new (S.left script.old) (S.left script.new) (O.faults files.old) (O.faults files.new)
+        (S.faults script.old) (S.faults script.new) }
+    ensures output { IsOutput result.status
+        (written_text (sample_named (words_told arguments)) (record_events result.events))
+        (K.taken out.old) (K.taken out.new) (K.finished out.new) }
+    ensures status { IsStatus result.status (record_events result.events)
+        (file_named (words_told arguments))
+        (faults_of (S.faults script.old) (O.faults files.old) (K.faults out.old))
+        (faults_of (S.faults script.new) (O.faults files.new) (K.faults out.new)) }
+    ensures words { AreJudged (words_told arguments) result.status }
     ensures untouched { result.status ≡ BAD_WORDS
         → (script.new ≡ script.old) × (files.new ≡ files.old) × (out.new ≡ out.old) }
-    ensures read_fault { result.status ≡ READ_FAILED → Rose (S.faults script.old) (S.faults script.new)
-        ⊎ Rose (O.faults files.old) (O.faults files.new) }
-    ensures write_fault { result.status ≡ WRITE_FAILED → Rose (K.faults out.old) (K.faults out.new) }
-    ensures source_faults_stay { S.faults script.old ≤ S.faults script.new }
-    ensures opener_faults_stay { O.faults files.old ≤ O.faults files.new }
-    ensures sink_faults_stay { K.faults out.old ≤ K.faults out.new }
 {
     records_enumerate();
     match words_after_name(alloc, arguments) {
@@ -76,7 +71,8 @@ fn run_told<R: Threads + Wait + Sync, S: Source, O: Opener, K: Sink, G: Gate + S
 
 // The status of a run whose words can't be told: they are refused, unless memory was wanted for them.
 fn untold(error: &io::Error) -> u8
-    ensures { (result ≡ BAD_WORDS) ⊎ (result ≡ NO_MEMORY) }
+    ensures status { (result ≡ BAD_WORDS) ⊎ (result ≡ NO_MEMORY) }
+    ensures memory { (result ≡ NO_MEMORY) ↔ (error_kind error.now ≡ ErrorKind.OutOfMemory) }
 {
     if error.kind() == ErrorKind::OutOfMemory {
         NO_MEMORY
@@ -102,31 +98,29 @@ pub fn run_arguments<R: Threads + Wait + Sync, S: Source, O: Opener, K: Sink, G:
     // The enumeration clause: each folding job shows the layer orders of the version that it names.
     ensures enumeration { EnumeratesOrders 1 (record_events result.events) }
 
-    // The input and the output clause, for the words that were told.
-    ensures run { IfOk arguments (λ told. (words : List (List ℕ)) × AreWordsOf told result.status words
-        × IsOutput result.status (written_text (sample_named words) (record_events result.events))
-        (K.taken out.old) (K.taken out.new) (K.finished out.new)
-        × (IsSome (sample_named words) → (script.new ≡ script.old) × (files.new ≡ files.old))
-        × (sample_named words ≡ None → result.status < 2 → IsAtEnd (S.left script.new))
-        × ((bytes : List ℕ) × Consumes (S.left script.old) (S.left script.new) bytes
-        × IsRun (O.file files.old) (sample_named words) (file_named words) result.status
-        (record_events result.events) bytes (O.faults files.old) (O.faults files.new) (S.faults script.old)
-        (S.faults script.new))) }
-    ensures untold { IfErr arguments (λ _.
-        (script.new ≡ script.old) × (files.new ≡ files.old) × (out.new ≡ out.old)
-        × (record_events result.events ≡ []) × (result.status ≡ BAD_WORDS ⊎ result.status ≡ NO_MEMORY)) }
-
-    // The status clause.
-    ensures status { result.status ≤ 6 }
-    ensures refusals { result.status < 2 → result.status ≡ ended_status (record_events result.events) }
+    // The input, the output and the status clause, for the words that were told.
+    ensures input { IfOk arguments (λ told. AnswersInput (O.file files.old) (sample_named (words_told told))
+        (file_named (words_told told)) result.status (record_events result.events) script.old script.new
+        files.old files.new (S.left script.old) (S.left script.new) (O.faults files.old) (O.faults files.new)
+        (S.faults script.old) (S.faults script.new)) }
+    ensures output { IfOk arguments (λ told. IsOutput result.status
+        (written_text (sample_named (words_told told)) (record_events result.events))
+        (K.taken out.old) (K.taken out.new) (K.finished out.new)) }
+    ensures status { IfOk arguments (λ told. IsStatus result.status (record_events result.events)
+        (file_named (words_told told))
+        (faults_of (S.faults script.old) (O.faults files.old) (K.faults out.old))
+        (faults_of (S.faults script.new) (O.faults files.new) (K.faults out.new))) }
+    ensures words { IfOk arguments (λ told. AreJudged (words_told told) result.status) }
     ensures untouched { result.status ≡ BAD_WORDS
         → (script.new ≡ script.old) × (files.new ≡ files.old) × (out.new ≡ out.old) }
-    ensures read_fault { result.status ≡ READ_FAILED → Rose (S.faults script.old) (S.faults script.new)
-        ⊎ Rose (O.faults files.old) (O.faults files.new) }
-    ensures write_fault { result.status ≡ WRITE_FAILED → Rose (K.faults out.old) (K.faults out.new) }
-    ensures source_faults_stay { S.faults script.old ≤ S.faults script.new }
-    ensures opener_faults_stay { O.faults files.old ≤ O.faults files.new }
-    ensures sink_faults_stay { K.faults out.old ≤ K.faults out.new }
+    ensures bound { result.status ≤ 6 }
+
+    // Where no words were told, nothing is read and nothing written.
+    ensures untold { IfErr arguments (λ error. (record_events result.events ≡ [])
+        × ((result.status ≡ BAD_WORDS) ⊎ (result.status ≡ NO_MEMORY))
+        × ((result.status ≡ NO_MEMORY) ↔ (error_kind error ≡ ErrorKind.OutOfMemory))) }
+    ensures undone { IfErr arguments (λ _.
+        (script.new ≡ script.old) × (files.new ≡ files.old) × (out.new ≡ out.old)) }
 {
     records_enumerate();
     match arguments {

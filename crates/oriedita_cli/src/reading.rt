@@ -1,11 +1,11 @@
 //! What is read before the first command is answered: the script, behind the file that the words name, or nothing for a
 //! sample.
 
-ghost use Rattle.std.specs.Prelude.{◌≡◌, ℕ, ◌<◌, ◌≤◌, ◌↔◌, List, length, IsSome, option_map, string_bytes};
+ghost use Rattle.std.specs.Prelude.{◌≡◌, ℕ, ◌<◌, ◌≤◌, ◌↔◌, ◌⊎◌, List, None, length, IsSome, option_map, string_bytes};
 ghost use Rattle.std.specs.Io.KnownBytes.{Consumes, IsAtEnd};
 ghost use Rattle.oriedita_io.specs.Faults.{Rose};
 ghost use Rattle.oriedita_cli.specs.Clauses.{script_limit};
-ghost use Rattle.oriedita_cli.specs.Reading.{IsReadBehind, IsReading, IsWhole};
+ghost use Rattle.oriedita_cli.specs.Reading.{IsReadBehind, IsReading, IsUntouched, IsWhole};
 
 use crate::lines::whole_lines;
 use crate::opening::{Unread, first_commands};
@@ -56,7 +56,8 @@ fn read_behind<S: Source>(alloc: Global, first: Commands, script: &mut S) -> Rea
     ensures reading { (bytes : List ℕ) × Consumes (S.left script.old) (S.left script.new) bytes
         × IsReadBehind first result bytes (S.faults script.old) (S.faults script.new) }
     ensures read_to_its_end { IsWhole result → IsAtEnd (S.left script.new) }
-    ensures faults_stay { S.faults script.old ≤ S.faults script.new }
+    ensures faults_stay { IsWhole result → S.faults script.new ≡ S.faults script.old }
+    ensures faults_rise { S.faults script.old ≤ S.faults script.new }
 {
     match read_all(alloc, script, LONGEST_INPUT) {
         Ok(input) => commands_behind(alloc, first, &input),
@@ -74,10 +75,13 @@ pub(crate) fn read_commands<S: Source, O: Opener>(
     ensures reading { (bytes : List ℕ) × Consumes (S.left script.old) (S.left script.new) bytes
         × IsReading (O.file files.old) options.now.sample (option_map string_bytes options.now.cp) result
         bytes (O.faults files.old) (O.faults files.new) (S.faults script.old) (S.faults script.new) }
-    ensures untouched { IsSome options.now.sample → (script.new ≡ script.old) × (files.new ≡ files.old) }
+    ensures unopened { (IsSome options.now.sample ⊎ (options.now.cp ≡ None)) → files.new ≡ files.old }
+    ensures untouched { IsUntouched result → script.new ≡ script.old }
     ensures read_to_its_end { IsWhole result → IsAtEnd (S.left script.new) }
-    ensures faults_stay { S.faults script.old ≤ S.faults script.new }
-    ensures openings_stay { O.faults files.old ≤ O.faults files.new }
+    ensures faults_stay { IsWhole result → (S.faults script.new ≡ S.faults script.old)
+        × (O.faults files.new ≡ O.faults files.old) }
+    ensures faults_rise { (S.faults script.old ≤ S.faults script.new)
+        × (O.faults files.old ≤ O.faults files.new) }
 {
     if let Some(n) = options.sample {
         return Reading::Sample(n);

@@ -1,24 +1,22 @@
 //! The top call.
 
-ghost use Rattle.std.specs.Prelude.{◌≡◌, ◌≢◌, ℕ, ◌<◌, ◌≤◌, ◌⊎◌, List, None, [], map, nat_lt, option_map, string_bytes, if◌then◌else◌, IfSome, IsSome};
-ghost use Rattle.std.specs.Io.KnownBytes.{Consumes, IsAtEnd};
+ghost use Rattle.std.specs.Prelude.{◌≡◌, ◌≢◌, ◌≤◌, ◌↔◌, ◌⊎◌, None, [], map, option_map, string_bytes, IfSome};
 ghost use Rattle.oriedita_io.specs.Faults.{Rose};
 ghost use Rattle.job_register.specs.View.{record_events};
 ghost use Rattle.job_register.specs.FoldingRecords.{EnumeratesOrders};
 ghost use Rattle.job_register.specs.Legal.{IsLegal};
-ghost use Rattle.job_register.specs.Text.{text_of};
 ghost use Rattle.program_words.specs.ProgramWords.{said_of};
-ghost use Rattle.oriedita_cli.specs.Clauses.{IsOutput, IsRun, ended_status, written_text};
+ghost use Rattle.oriedita_cli.specs.Clauses.{AnswersInput, IsOutput, IsStatus, ended_status, faults_of, written_text};
 ghost use Rattle.oriedita_cli.specs.Errands.{IsDone, IsErrand, IsSample, sample_of};
+ghost use Rattle.oriedita_cli.specs.Starting.{cut_status};
 ghost use Rattle.oriedita_cli.specs.Words.{file_named, sample_named};
 
 use crate::errands::{Errand, do_errand};
-use crate::opening::Unread;
-use crate::reading::{Reading, read_commands};
+use crate::starting::{Start, begin};
 use crate::workers::run_beside_workers;
 use job_register::Record;
 use job_register::laws::records_enumerate;
-use oriedita_io::{Failed, Opener, Sink, Source};
+use oriedita_io::{Opener, Sink, Source};
 use program_words::{Options, WordsFault, read_words};
 use std::alloc::Global;
 use std::sync::Wait;
@@ -59,46 +57,10 @@ pub(crate) fn ended_without(alloc: Global, status: u8) -> Ended
     }
 }
 
-// The end of a run whose file could not be read. Its output is nothing, and it is finished.
-fn ended_unopened<K: Sink>(alloc: Global, out: &mut K) -> Ended
-    ensures status { (result.status ≡ READ_FAILED) ⊎ (result.status ≡ WRITE_FAILED) }
-    ensures events { record_events result.events ≡ [] }
-    ensures legal { IsLegal 1 (record_events result.events) }
-    ensures output { IsOutput result.status (text_of (record_events result.events)) (K.taken out.old)
-        (K.taken out.new) (K.finished out.new) }
-    ensures cause { result.status ≡ WRITE_FAILED → Rose (K.faults out.old) (K.faults out.new) }
-    ensures faults_stay { K.faults out.old ≤ K.faults out.new }
-{
-    match out.finish() {
-        Ok(()) => ended_without(alloc, READ_FAILED),
-        Err(Failed) => ended_without(alloc, WRITE_FAILED),
-    }
-}
-
-// The end of a run that read no script, for the file.
-fn ended_unread<K: Sink>(alloc: Global, fault: Unread, out: &mut K) -> Ended
-    ensures events { record_events result.events ≡ [] }
-    ensures legal { IsLegal 1 (record_events result.events) }
-    ensures late { 3 ≤ result.status }
-    ensures status { result.status ≤ 6 }
-    ensures failed { result.status ≡ READ_FAILED → fault ≡ Unread.Failed }
-    ensures long { result.status ≡ TOO_LONG → fault ≡ Unread.TooLong }
-    ensures output { IsOutput result.status (text_of (record_events result.events)) (K.taken out.old)
-        (K.taken out.new) (K.finished out.new) }
-    ensures cause { result.status ≡ WRITE_FAILED → Rose (K.faults out.old) (K.faults out.new) }
-    ensures faults_stay { K.faults out.old ≤ K.faults out.new }
-{
-    match fault {
-        Unread::Failed => ended_unopened(alloc, out),
-        Unread::TooLong => ended_without(alloc, TOO_LONG),
-        Unread::Memory => ended_without(alloc, NO_MEMORY),
-    }
-}
-
 // The end of a run whose script a read fault cut.
 fn cut_short(ended: Ended) -> Ended
     ensures events { record_events result.events ≡ record_events ended.events }
-    ensures status { result.status ≡ (if nat_lt ended.status 2 then READ_FAILED else ended.status) }
+    ensures status { result.status ≡ cut_status ended.status }
 {
     let status = if ended.status < 2 {
         READ_FAILED
@@ -121,7 +83,8 @@ fn do_alone<R: Threads + Sync, K: Sink>(rt: &R, alloc: Global, errand: Errand, o
     ensures status { (result.status ≡ ended_status (record_events result.events))
         ⊎ ((result.status ≡ WRITE_FAILED) ⊎ (result.status ≡ NO_MEMORY)) }
     ensures cause { result.status ≡ WRITE_FAILED → Rose (K.faults out.old) (K.faults out.new) }
-    ensures faults_stay { K.faults out.old ≤ K.faults out.new }
+    ensures faults_stay { result.status ≢ WRITE_FAILED → K.faults out.new ≡ K.faults out.old }
+    ensures faults_rise { K.faults out.old ≤ K.faults out.new }
 {
     let mut helpers = Alone::new(alloc);
     do_errand(rt, alloc, 1, errand, &mut helpers, out)
@@ -139,31 +102,24 @@ pub fn run_alone<R: Threads + Sync, S: Source, O: Opener, K: Sink>(
     requires { IfSome options.now.sample IsSample }
     ensures legal { IsLegal 1 (record_events result.events) }
     ensures enumeration { EnumeratesOrders 1 (record_events result.events) }
-    ensures input { (bytes : List ℕ) × Consumes (S.left script.old) (S.left script.new) bytes
-        × IsRun (O.file files.old) options.now.sample (option_map string_bytes options.now.cp) result.status
-        (record_events result.events) bytes (O.faults files.old) (O.faults files.new) (S.faults script.old)
-        (S.faults script.new) }
-    ensures unread { IsSome options.now.sample → (script.new ≡ script.old) × (files.new ≡ files.old) }
-    ensures read_to_its_end { options.now.sample ≡ None → result.status < 2 → IsAtEnd (S.left script.new) }
+    ensures input { AnswersInput (O.file files.old) options.now.sample
+        (option_map string_bytes options.now.cp) result.status (record_events result.events)
+        script.old script.new files.old files.new
+        (S.left script.old) (S.left script.new) (O.faults files.old) (O.faults files.new)
+        (S.faults script.old) (S.faults script.new) }
     ensures output { IsOutput result.status (written_text options.now.sample (record_events result.events))
         (K.taken out.old) (K.taken out.new) (K.finished out.new) }
-    ensures status { result.status ≤ 6 }
+    ensures status { IsStatus result.status (record_events result.events)
+        (option_map string_bytes options.now.cp)
+        (faults_of (S.faults script.old) (O.faults files.old) (K.faults out.old))
+        (faults_of (S.faults script.new) (O.faults files.new) (K.faults out.new)) }
     ensures words { result.status ≢ BAD_WORDS }
-    ensures refusals { result.status < 2 → result.status ≡ ended_status (record_events result.events) }
-    ensures read_fault { result.status ≡ READ_FAILED → Rose (S.faults script.old) (S.faults script.new)
-        ⊎ Rose (O.faults files.old) (O.faults files.new) }
-    ensures write_fault { result.status ≡ WRITE_FAILED → Rose (K.faults out.old) (K.faults out.new) }
-    ensures source_faults_stay { S.faults script.old ≤ S.faults script.new }
-    ensures opener_faults_stay { O.faults files.old ≤ O.faults files.new }
-    ensures sink_faults_stay { K.faults out.old ≤ K.faults out.new }
 {
     records_enumerate();
-    match read_commands(alloc, options, script, files) {
-        Reading::Whole(commands) => do_alone(rt, alloc, Errand::Script(commands), out),
-        Reading::Cut(commands) => cut_short(do_alone(rt, alloc, Errand::Script(commands), out)),
-        Reading::Sample(n) => do_alone(rt, alloc, Errand::Sample(n), out),
-        Reading::Nothing(status) => ended_without(alloc, status),
-        Reading::NoFile(fault) => ended_unread(alloc, fault, out),
+    match begin(alloc, options, script, files, out) {
+        Start::Whole(errand) => do_alone(rt, alloc, errand, out),
+        Start::Cut(errand) => cut_short(do_alone(rt, alloc, errand, out)),
+        Start::Over(ended) => ended,
     }
 }
 
@@ -181,41 +137,25 @@ fn run_beside<R: Threads + Wait + Sync, S: Source, O: Opener, K: Sink, G: Gate +
     requires sample { IfSome options.now.sample IsSample }
     ensures legal { IsLegal 1 (record_events result.events) }
     ensures enumeration { EnumeratesOrders 1 (record_events result.events) }
-    ensures input { (bytes : List ℕ) × Consumes (S.left script.old) (S.left script.new) bytes
-        × IsRun (O.file files.old) options.now.sample (option_map string_bytes options.now.cp) result.status
-        (record_events result.events) bytes (O.faults files.old) (O.faults files.new) (S.faults script.old)
-        (S.faults script.new) }
-    ensures unread { IsSome options.now.sample → (script.new ≡ script.old) × (files.new ≡ files.old) }
-    ensures read_to_its_end { options.now.sample ≡ None → result.status < 2 → IsAtEnd (S.left script.new) }
+    ensures input { AnswersInput (O.file files.old) options.now.sample
+        (option_map string_bytes options.now.cp) result.status (record_events result.events)
+        script.old script.new files.old files.new
+        (S.left script.old) (S.left script.new) (O.faults files.old) (O.faults files.new)
+        (S.faults script.old) (S.faults script.new) }
     ensures output { IsOutput result.status (written_text options.now.sample (record_events result.events))
         (K.taken out.old) (K.taken out.new) (K.finished out.new) }
-    ensures status { result.status ≤ 6 }
+    ensures status { IsStatus result.status (record_events result.events)
+        (option_map string_bytes options.now.cp)
+        (faults_of (S.faults script.old) (O.faults files.old) (K.faults out.old))
+        (faults_of (S.faults script.new) (O.faults files.new) (K.faults out.new)) }
     ensures words { result.status ≢ BAD_WORDS }
-    ensures refusals { result.status < 2 → result.status ≡ ended_status (record_events result.events) }
-    ensures read_fault { result.status ≡ READ_FAILED → Rose (S.faults script.old) (S.faults script.new)
-        ⊎ Rose (O.faults files.old) (O.faults files.new) }
-    ensures write_fault { result.status ≡ WRITE_FAILED → Rose (K.faults out.old) (K.faults out.new) }
-    ensures source_faults_stay { S.faults script.old ≤ S.faults script.new }
-    ensures opener_faults_stay { O.faults files.old ≤ O.faults files.new }
-    ensures sink_faults_stay { K.faults out.old ≤ K.faults out.new }
 {
     let workers = options.workers;
     records_enumerate();
-    match read_commands(alloc, options, script, files) {
-        Reading::Whole(commands) => {
-            run_beside_workers(rt, alloc, workers, Errand::Script(commands), gate, out)
-        }
-        Reading::Cut(commands) => cut_short(run_beside_workers(
-            rt,
-            alloc,
-            workers,
-            Errand::Script(commands),
-            gate,
-            out,
-        )),
-        Reading::Sample(n) => run_beside_workers(rt, alloc, workers, Errand::Sample(n), gate, out),
-        Reading::Nothing(status) => ended_without(alloc, status),
-        Reading::NoFile(fault) => ended_unread(alloc, fault, out),
+    match begin(alloc, options, script, files, out) {
+        Start::Whole(errand) => run_beside_workers(rt, alloc, workers, errand, gate, out),
+        Start::Cut(errand) => cut_short(run_beside_workers(rt, alloc, workers, errand, gate, out)),
+        Start::Over(ended) => ended,
     }
 }
 
@@ -239,14 +179,11 @@ pub fn run<R: Threads + Wait + Sync, S: Source, O: Opener, K: Sink, G: Gate + Sy
     ensures enumeration { EnumeratesOrders 1 (record_events result.events) }
 
     // The input clause.
-    ensures input { (bytes : List ℕ) × Consumes (S.left script.old) (S.left script.new) bytes
-        × IsRun (O.file files.old) (sample_named (map string_bytes words.now))
-        (file_named (map string_bytes words.now)) result.status (record_events result.events) bytes
-        (O.faults files.old) (O.faults files.new) (S.faults script.old) (S.faults script.new) }
-    ensures unread { IsSome (sample_named (map string_bytes words.now))
-        → (script.new ≡ script.old) × (files.new ≡ files.old) }
-    ensures read_to_its_end { sample_named (map string_bytes words.now) ≡ None → result.status < 2
-        → IsAtEnd (S.left script.new) }
+    ensures input { AnswersInput (O.file files.old) (sample_named (map string_bytes words.now))
+        (file_named (map string_bytes words.now)) result.status (record_events result.events)
+        script.old script.new files.old files.new
+        (S.left script.old) (S.left script.new) (O.faults files.old) (O.faults files.new)
+        (S.faults script.old) (S.faults script.new) }
 
     // The output clause.
     ensures output { IsOutput result.status
@@ -254,19 +191,15 @@ pub fn run<R: Threads + Wait + Sync, S: Source, O: Opener, K: Sink, G: Gate + Sy
         (K.taken out.old) (K.taken out.new) (K.finished out.new) }
 
     // The status clause.
-    ensures status { result.status ≤ 6 }
-    ensures refusals { result.status < 2 → result.status ≡ ended_status (record_events result.events) }
-    ensures bad_words { result.status ≡ BAD_WORDS → said_of (map string_bytes words.now) ≡ None }
-    ensures refused { said_of (map string_bytes words.now) ≡ None
-        → (result.status ≡ BAD_WORDS) ⊎ (result.status ≡ NO_MEMORY) }
+    ensures status { IsStatus result.status (record_events result.events)
+        (file_named (map string_bytes words.now))
+        (faults_of (S.faults script.old) (O.faults files.old) (K.faults out.old))
+        (faults_of (S.faults script.new) (O.faults files.new) (K.faults out.new)) }
+
+    // The words.
+    ensures words { (result.status ≡ BAD_WORDS) ↔ (said_of (map string_bytes words.now) ≡ None) }
     ensures untouched { said_of (map string_bytes words.now) ≡ None
         → (script.new ≡ script.old) × (files.new ≡ files.old) × (out.new ≡ out.old) }
-    ensures read_fault { result.status ≡ READ_FAILED → Rose (S.faults script.old) (S.faults script.new)
-        ⊎ Rose (O.faults files.old) (O.faults files.new) }
-    ensures write_fault { result.status ≡ WRITE_FAILED → Rose (K.faults out.old) (K.faults out.new) }
-    ensures source_faults_stay { S.faults script.old ≤ S.faults script.new }
-    ensures opener_faults_stay { O.faults files.old ≤ O.faults files.new }
-    ensures sink_faults_stay { K.faults out.old ≤ K.faults out.new }
 {
     records_enumerate();
     match read_words(alloc, words) {

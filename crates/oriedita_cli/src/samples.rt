@@ -1,6 +1,6 @@
 //! A sample pattern, folded to its last layer order.
 
-ghost use Rattle.std.specs.Prelude.{◌≡◌, ◌++◌, ◌+◌, ◌-◌, ◌^◌, ◌<◌, ◌≤◌, [], ℕ, None, Err, true, false, IfOk, IsTrue, OnOk, codes, decimal, string_bytes};
+ghost use Rattle.std.specs.Prelude.{◌≡◌, ◌≢◌, ◌++◌, ◌+◌, ◌-◌, ◌^◌, ◌<◌, ◌≤◌, [], ℕ, None, Err, true, false, IfOk, IsTrue, OnOk, codes, decimal, string_bytes};
 ghost use Rattle.std.specs.Prelude.{Some, take, length, if◌then◌else◌};
 ghost use Rattle.std.specs.List.{list_any};
 ghost use Rattle.std.specs.Io.KnownBytes.{Appends};
@@ -12,7 +12,7 @@ ghost use Rattle.oriedita_cli.specs.Serving.{IsAskedOn};
 ghost use Rattle.oriedita_cli.specs.Tickets.{AreMisses, IsHelped};
 
 use crate::folding::Folding;
-use crate::serving::{Stop, answer};
+use crate::serving::{Stop, answer_command};
 use crate::tickets::Tickets;
 use cp_text::{CpLine, sample};
 use crease_store::LoadLine;
@@ -108,7 +108,7 @@ fn ask_next<R: Threads + Sync, H: Helpers<Folding>>(
     ensures running { AreMisses (H.misses helpers.old) (H.misses helpers.new) session.old.events
         session.new.events }
 {
-    answer(
+    answer_command(
         rt,
         alloc,
         most,
@@ -120,7 +120,7 @@ fn ask_next<R: Threads + Sync, H: Helpers<Folding>>(
     if is_over(session) {
         return Ok(false);
     }
-    answer(
+    answer_command(
         rt,
         alloc,
         most,
@@ -180,8 +180,8 @@ pub(crate) fn fold_sample<R: Threads + Sync, H: Helpers<Folding>>(
         session.new.events }
 {
     let load = load_sample(alloc, n)?;
-    answer(rt, alloc, most, session, helpers, tickets, load)?;
-    answer(rt, alloc, most, session, helpers, tickets, Command::Fold)?;
+    answer_command(rt, alloc, most, session, helpers, tickets, load)?;
+    answer_command(rt, alloc, most, session, helpers, tickets, Command::Fold)?;
     ask_all(rt, alloc, most, session, helpers, tickets)
 }
 
@@ -306,7 +306,8 @@ pub(crate) fn write_line<K: Sink>(
     ensures front { (count : ℕ)
         × Appends (K.taken out.old) (K.taken out.new) (take count (sample_text n session.now.events)) }
     ensures cause { result ≡ Err Stop.Write → Rose (K.faults out.old) (K.faults out.new) }
-    ensures faults_stay { K.faults out.old ≤ K.faults out.new }
+    ensures faults_stay { result ≢ Err Stop.Write → K.faults out.new ≡ K.faults out.old }
+    ensures faults_rise { K.faults out.old ≤ K.faults out.new }
 {
     let text = sample_text(alloc, n, session.events().events())?;
     write_all(out, text.as_bytes())?;

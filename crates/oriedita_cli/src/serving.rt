@@ -1,6 +1,6 @@
 //! Commands answered, and their replies written.
 
-ghost use Rattle.std.specs.Prelude.{◌≡◌, ◌∷◌, ◌++◌, [], ℕ, List, ◌≤◌, false, IsTrue, MatchResult, OnOk, OnErr, Option};
+ghost use Rattle.std.specs.Prelude.{◌≡◌, ◌≢◌, ◌∷◌, ◌++◌, [], ℕ, List, ◌≤◌, false, IsTrue, MatchResult, OnOk, OnErr, Option};
 ghost use Rattle.std.specs.List.{list_all, list_any};
 ghost use Rattle.script_lang.specs.Script.{meets_condition};
 ghost use Rattle.job_register.specs.Legal.{commands_in};
@@ -61,7 +61,7 @@ fn asked_job(command: &Command) -> Option<u32> {
 
 /// Answers one command. Helpers are asked first for the outcomes that a peek or a wait needs; the tasks of an ask are put
 /// right after it.
-pub(crate) fn answer<R: Threads + Sync, H: Helpers<Folding>>(
+pub(crate) fn answer_command<R: Threads + Sync, H: Helpers<Folding>>(
     rt: &R,
     alloc: Global,
     most: u32,
@@ -96,7 +96,7 @@ pub(crate) fn answer<R: Threads + Sync, H: Helpers<Folding>>(
 }
 
 /// Answers one command and writes the text of the reply, which `text` holds meanwhile.
-pub fn serve<R: Threads + Sync, H: Helpers<Folding>, K: Sink>(
+pub fn serve_command<R: Threads + Sync, H: Helpers<Folding>, K: Sink>(
     rt: &R,
     alloc: Global,
     most: u32,
@@ -119,9 +119,10 @@ pub fn serve<R: Threads + Sync, H: Helpers<Folding>, K: Sink>(
         session.new.events }
     ensures most { session.new.state.jobs.most ≡ session.old.state.jobs.most }
     ensures cause { result ≡ Err Stop.Write → Rose (K.faults out.old) (K.faults out.new) }
-    ensures faults_stay { K.faults out.old ≤ K.faults out.new }
+    ensures faults_stay { result ≢ Err Stop.Write → K.faults out.new ≡ K.faults out.old }
+    ensures faults_rise { K.faults out.old ≤ K.faults out.new }
 {
-    answer(rt, alloc, most, session, helpers, tickets, command)?;
+    answer_command(rt, alloc, most, session, helpers, tickets, command)?;
     text.clear();
     session.write_last(text)?;
     write_all(out, text.as_slice())?;
@@ -151,11 +152,12 @@ pub fn serve_all<R: Threads + Sync, H: Helpers<Folding>, K: Sink>(
         session.new.events }
     ensures most { session.new.state.jobs.most ≡ session.old.state.jobs.most }
     ensures cause { result ≡ Err Stop.Write → Rose (K.faults out.old) (K.faults out.new) }
-    ensures faults_stay { K.faults out.old ≤ K.faults out.new }
+    ensures faults_stay { result ≢ Err Stop.Write → K.faults out.new ≡ K.faults out.old }
+    ensures faults_rise { K.faults out.old ≤ K.faults out.new }
 {
     let mut text = Vec::new(alloc);
     for command in commands {
-        serve(
+        serve_command(
             rt, alloc, most, session, helpers, tickets, &mut text, command, out,
         )?;
     }

@@ -1,6 +1,6 @@
 //! A session over helpers.
 
-ghost use Rattle.std.specs.Prelude.{◌≡◌, ℕ, ◌+◌, ◌-◌, ◌^◌, ◌<◌, ◌≤◌, ◌⊎◌, None, true};
+ghost use Rattle.std.specs.Prelude.{◌≡◌, ◌≢◌, ℕ, ◌+◌, ◌-◌, ◌^◌, ◌<◌, ◌≤◌, ◌⊎◌, ◌↔◌, None, true};
 ghost use Rattle.std.specs.Io.KnownBytes.{Keeps};
 ghost use Rattle.oriedita_io.specs.Faults.{Rose};
 ghost use Rattle.oriedita_io.specs.Told.{Tells};
@@ -32,7 +32,8 @@ pub(crate) fn finish<K: Sink>(session: Session, out: &mut K) -> Ended
     ensures status { (result.status ≡ ended_status session.events) ⊎ (result.status ≡ WRITE_FAILED) }
     ensures finished { result.status < 2 → Tells (K.finished out.new) true }
     ensures cause { result.status ≡ WRITE_FAILED → Rose (K.faults out.old) (K.faults out.new) }
-    ensures faults_stay { K.faults out.old ≤ K.faults out.new }
+    ensures faults_stay { result.status ≢ WRITE_FAILED → K.faults out.new ≡ K.faults out.old }
+    ensures faults_rise { K.faults out.old ≤ K.faults out.new }
 {
     let status = if session.has_refusal() {
         REFUSED
@@ -56,7 +57,8 @@ pub(crate) fn stopped(session: Session, stop: Stop) -> Ended
     ensures events { record_events result.events ≡ session.events }
     ensures legal { IsLegal session.state.jobs.most session.events }
     ensures status { (result.status ≡ WRITE_FAILED) ⊎ (result.status ≡ NO_MEMORY) }
-    ensures write { result.status ≡ WRITE_FAILED → stop ≡ Stop.Write }
+    ensures write { (result.status ≡ WRITE_FAILED) ↔ (stop ≡ Stop.Write) }
+    ensures memory { (result.status ≡ NO_MEMORY) ↔ (stop ≡ Stop.Memory) }
 {
     let status = match stop {
         Stop::Write => WRITE_FAILED,
@@ -89,7 +91,8 @@ pub fn session<R: Threads + Sync, H: Helpers<Folding>, K: Sink>(
     ensures status { (result.status ≡ ended_status (record_events result.events))
         ⊎ ((result.status ≡ WRITE_FAILED) ⊎ (result.status ≡ NO_MEMORY)) }
     ensures cause { result.status ≡ WRITE_FAILED → Rose (K.faults out.old) (K.faults out.new) }
-    ensures faults_stay { K.faults out.old ≤ K.faults out.new }
+    ensures faults_stay { result.status ≢ WRITE_FAILED → K.faults out.new ≡ K.faults out.old }
+    ensures faults_rise { K.faults out.old ≤ K.faults out.new }
     // Each reply that no answer is there yet was told so by the helpers, and no outcome came but by its ticket.
     ensures running { H.misses helpers.new < 2 ^ 64 - 1
         → running_replies (record_events result.events) + H.misses helpers.old ≤ H.misses helpers.new }
@@ -122,7 +125,8 @@ pub fn sample_run<R: Threads + Sync, H: Helpers<Folding>, K: Sink>(
     ensures status { (result.status ≡ ended_status (record_events result.events))
         ⊎ ((result.status ≡ WRITE_FAILED) ⊎ (result.status ≡ NO_MEMORY)) }
     ensures cause { result.status ≡ WRITE_FAILED → Rose (K.faults out.old) (K.faults out.new) }
-    ensures faults_stay { K.faults out.old ≤ K.faults out.new }
+    ensures faults_stay { result.status ≢ WRITE_FAILED → K.faults out.new ≡ K.faults out.old }
+    ensures faults_rise { K.faults out.old ≤ K.faults out.new }
     ensures running { H.misses helpers.new < 2 ^ 64 - 1
         → running_replies (record_events result.events) + H.misses helpers.old ≤ H.misses helpers.new }
     ensures tickets { accepted_outcomes (record_events result.events)

@@ -8,14 +8,14 @@ use std::alloc::Global;
 
 /// A ticket that is held, and the task that it is for: the one of a piece of a job with this budget.
 #[derive(Clone, Copy, Drop)]
-pub struct Ticket {
+pub struct HeldTicket {
     pub number: u32,
     pub job: u32,
     pub piece: u32,
     pub budget: u64,
 }
 
-impl Ticket {
+impl HeldTicket {
     fn is_for(&self, job: u32, piece: u32, budget: u64) -> bool
         ensures { result ≡ is_for job piece budget self.now }
     {
@@ -26,7 +26,7 @@ impl Ticket {
 /// The tickets that a session holds, and how many it was given.
 #[derive(Drop)]
 pub struct Tickets {
-    pub list: Vec<Ticket>,
+    pub list: Vec<HeldTicket>,
     pub given: u32,
 }
 
@@ -65,7 +65,7 @@ impl Tickets {
         ensures given { self.new.given ≡ self.old.given }
     {
         self.list.retain(
-            |ticket: &Ticket| -> bool
+            |ticket: &HeldTicket| -> bool
                 ensures { result ≡ is_other number ticket.now }
             { ticket.number != number },
         );

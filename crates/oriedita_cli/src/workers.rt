@@ -1,6 +1,6 @@
 //! A session whose tasks worker threads search.
 
-ghost use Rattle.std.specs.Prelude.{◌≡◌, ◌+◌, ◌<◌, ◌≤◌, ◌⊎◌, IfSome};
+ghost use Rattle.std.specs.Prelude.{◌≡◌, ◌≢◌, ◌+◌, ◌<◌, ◌≤◌, ◌⊎◌, IfSome};
 ghost use Rattle.oriedita_io.specs.Faults.{Rose};
 ghost use Rattle.job_register.specs.View.{record_events};
 ghost use Rattle.job_register.specs.Legal.{IsLegal};
@@ -42,7 +42,8 @@ fn own<L: Ledger, R: Threads + Wait + Sync, K: Sink>(
     ensures status { (result.status ≡ ended_status (record_events result.events))
         ⊎ ((result.status ≡ WRITE_FAILED) ⊎ (result.status ≡ NO_MEMORY)) }
     ensures cause { result.status ≡ WRITE_FAILED → Rose (K.faults out.old) (K.faults out.new) }
-    ensures faults_stay { K.faults out.old ≤ K.faults out.new }
+    ensures faults_stay { result.status ≢ WRITE_FAILED → K.faults out.new ≡ K.faults out.old }
+    ensures faults_rise { K.faults out.old ≤ K.faults out.new }
 {
     let Some(Owner { seat, errand }) = owner.take() else {
         return ended_without(alloc, NO_MEMORY);
@@ -93,7 +94,8 @@ fn run_over_board<L: Ledger + Send + Sync, R: Threads + Wait + Sync, G: Gate + S
     ensures status { (result.status ≡ ended_status (record_events result.events))
         ⊎ ((result.status ≡ WRITE_FAILED) ⊎ (result.status ≡ NO_MEMORY)) }
     ensures cause { result.status ≡ WRITE_FAILED → Rose (K.faults out.old) (K.faults out.new) }
-    ensures faults_stay { K.faults out.old ≤ K.faults out.new }
+    ensures faults_stay { result.status ≢ WRITE_FAILED → K.faults out.new ≡ K.faults out.old }
+    ensures faults_rise { K.faults out.old ≤ K.faults out.new }
 {
     let Ok((board, mut seats)) = Board::<Folding, L>::open(alloc, blank, seats) else {
         return ended_without(alloc, NO_MEMORY);
@@ -135,7 +137,8 @@ pub(crate) fn run_beside_workers<R: Threads + Wait + Sync, G: Gate + Sync, K: Si
     ensures status { (result.status ≡ ended_status (record_events result.events))
         ⊎ ((result.status ≡ WRITE_FAILED) ⊎ (result.status ≡ NO_MEMORY)) }
     ensures cause { result.status ≡ WRITE_FAILED → Rose (K.faults out.old) (K.faults out.new) }
-    ensures faults_stay { K.faults out.old ≤ K.faults out.new }
+    ensures faults_stay { result.status ≢ WRITE_FAILED → K.faults out.new ≡ K.faults out.old }
+    ensures faults_rise { K.faults out.old ≤ K.faults out.new }
 {
     let seats = workers + 1;
     let blank = Blank::new(u64::from(seats));

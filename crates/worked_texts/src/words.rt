@@ -88,3 +88,13 @@ fn refuses_other_words(rt: HostRuntime) -> Result<(), Fail> {
     }
     Ok(())
 }
+
+#[test]
+fn faults_of_words_have_their_text(rt: HostRuntime) -> Result<(), Fail> {
+    let alloc = rt.alloc();
+    let refused = WordsFault::BadWords.to_string(alloc)?;
+    assert_eq!(rt; refused.as_str(), "the words are not accepted");
+    let memory = WordsFault::Memory.to_string(alloc)?;
+    assert_eq!(rt; memory.as_str(), "out of memory");
+    Ok(())
+}

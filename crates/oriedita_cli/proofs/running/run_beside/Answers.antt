@@ -1,69 +1,22 @@
-use Rattle.std.proofs.Common.{inl, inr}
+use Rattle.std.proofs.Common.{ap}
 use Rattle.job_register.specs.View.{record_events}
-use Rattle.oriedita_cli.proofs.Outputs.{script_output, unanswered_output}
-use Rattle.oriedita_cli.proofs.Readings.{whole_is_read, cut_is_read, nothing_is_read, no_file_is_unread, script_is_run, sample_is_run}
+use Rattle.oriedita_cli.specs.declared.starting.Start.TheVariants as start
+use Rattle.oriedita_cli.specs.Starting.{MayEnd}
+use Rattle.oriedita_cli.proofs.Readings.{cut_is_status}
 use Rattle.oriedita_cli.proofs.running.run_beside.Goals as goal
 
-pub returns-in-Whole-clause-input : goal.returns-in-Whole-clause-input
-returns-in-Whole-clause-input g c =
-    let read = c.in-Whole.ensures.reading in (
-      read.0,
-      read.1,
-      script_is_run _ _ _ _ _ _ _ _ _ _ read.2.0
-          (inr (whole_is_read _ _ _ c.run_beside_workers.result.status (record_events c.run_beside_workers.result.events) read.0 _ _ read.2.1
-          c.run_beside_workers.ensures.done c.run_beside_workers.ensures.status)),
-    )
-
-pub returns-in-Whole-clause-output : goal.returns-in-Whole-clause-output
-returns-in-Whole-clause-output g c =
-    script_output _ _ _ _ _ _ c.in-Whole.ensures.reading.2.0 c.run_beside_workers.ensures.output
-
-pub returns-in-Cut-clause-input : goal.returns-in-Cut-clause-input
-returns-in-Cut-clause-input g c =
-    let read = c.in-Cut.ensures.reading in (
-      read.0,
-      read.1,
-      script_is_run _ _ _ _ _ _ _ _ _ _ read.2.0
-          (inr (cut_is_read _ _ _ c.run_beside_workers-in-Cut.result.status c.cut_short.result.status (record_events c.run_beside_workers-in-Cut.result.events)
-          (record_events c.cut_short.result.events) read.0 _ _ read.2.1 c.run_beside_workers-in-Cut.ensures.done
-          c.run_beside_workers-in-Cut.ensures.status c.cut_short.ensures.events c.cut_short.ensures.status)),
-    )
-
-pub returns-in-Sample-clause-input : goal.returns-in-Sample-clause-input
-returns-in-Sample-clause-input g c =
-    let read = c.in-Sample.ensures.reading in (
-      read.0,
-      read.1,
-      sample_is_run _ _ c.in-Sample.n _ _ _ read.0 _ _ _ _ read.2.0 read.2.1 c.run_beside_workers-in-Sample.ensures.done,
-    )
-
-pub returns-in-Nothing-clause-input : goal.returns-in-Nothing-clause-input
-returns-in-Nothing-clause-input g c =
-    let read = c.in-Nothing.ensures.reading in (
-      read.0,
-      read.1,
-      script_is_run _ _ _ _ _ _ _ _ _ _ read.2.0
-          (inr (nothing_is_read _ _ c.in-Nothing.status c.ended_without.result.status
-          (record_events c.ended_without.result.events) read.0 _ _ read.2.1 c.ended_without.ensures.status
-          c.ended_without.ensures.events)),
-    )
-
-pub returns-in-NoFile-clause-input : goal.returns-in-NoFile-clause-input
-returns-in-NoFile-clause-input g c =
-    let read = c.in-NoFile.ensures.reading in (
-      read.0,
-      read.1,
-      script_is_run _ _ _ _ _ _ _ _ _ _ read.2.0
-          (inl (no_file_is_unread _ _ c.in-NoFile.fault c.ended_unread.result.status
-          (record_events c.ended_unread.result.events) read.0 _ _ read.2.1 c.ended_unread.ensures.events
-          c.ended_unread.ensures.late c.ended_unread.ensures.failed c.ended_unread.ensures.long)),
-    )
-
-pub returns-in-Nothing-clause-output : goal.returns-in-Nothing-clause-output
-returns-in-Nothing-clause-output g c =
-    unanswered_output c.ended_without.result.status c.in-Nothing.status _ _ _ c.ended_without.ensures.status
-    (c.in-Nothing.ensures.reading.2.1.behind)
-
-pub returns-in-NoFile-clause-output : goal.returns-in-NoFile-clause-output
-returns-in-NoFile-clause-output g c =
-    script_output _ _ _ _ _ _ c.in-NoFile.ensures.reading.2.0 c.ended_unread.ensures.output
+pub returns-in-Cut-clause-status : goal.returns-in-Cut-clause-status
+returns-in-Cut-clause-status g c =
+    let told = c.run_beside_workers-in-Cut in
+    let events = record_events told.result.events in
+    let status = c.cut_short.result.status in
+    let begun = c.in-Cut.ensures in
+    let may : MayEnd (start.Cut c.in-Cut.errand) status events = (
+      told.result.status,
+      c.cut_short.ensures.status,
+      record { done = told.ensures.done; status_is = told.ensures.status },
+    ) in
+    cut_is_status told.result.status status events (record_events c.cut_short.result.events) _ _ _ _ _ _ _ _
+    c.cut_short.ensures.status told.ensures.status (begun.read status events may) (begun.unread status events may)
+    begun.rise (ap g.K.Sink.faults (begun.untouched tt)) told.ensures.cause told.ensures.faults_stay
+    told.ensures.faults_rise

@@ -19,11 +19,11 @@ loop-command-init g c = record {
   helped = c.requires.helped;
   misses = omega arith;
   running = misses_none _ _ c.args.session.now.events c.args.session.now.events (omega arith) refl;
-  faults = omega arith;
+  faults = refl;
 }
 
-pub serve-requires : goal.serve-requires
-serve-requires g c = (
+pub serve_command-requires : goal.serve_command-requires
+serve_command-requires g c = (
   c.type_bounds.sync-R,
   (
     (and_parts (meets_condition c.in-Some.command) _
@@ -44,26 +44,26 @@ loop-command-preserved g c =
       condition = (and_parts (meets_condition command) _
           (subst (λ (xs : List Command). list_all meets_condition xs ≡ true) steps
           c.loop-command.invariant.condition)).1;
-      served = serves_both c.args.session.now.events c.loop-command.session.events c.serve.new.session.events
-          (taken c.args.out.now) (taken c.loop-command.out) (taken c.serve.new.out)
-          c.loop-command.yielded (command ∷ []) c.loop-command.invariant.served c.in_ok-serve.ensures.serves;
-      most = c.serve.ensures.most ∙ c.loop-command.invariant.most;
-      helped = c.serve.ensures.helped;
-      misses = omega (arith, c.loop-command.invariant.misses, c.serve.ensures.misses);
-      running = misses_both _ _ _ c.args.session.now.events c.loop-command.session.events c.serve.new.session.events
-          c.serve.ensures.misses c.loop-command.invariant.running c.serve.ensures.running;
-      faults = omega (arith, c.loop-command.invariant.faults, c.in_ok-serve.ensures.faults_stay);
+      served = serves_both c.args.session.now.events c.loop-command.session.events c.serve_command.new.session.events
+          (taken c.args.out.now) (taken c.loop-command.out) (taken c.serve_command.new.out)
+          c.loop-command.yielded (command ∷ []) c.loop-command.invariant.served c.in_ok-serve_command.ensures.serves;
+      most = c.serve_command.ensures.most ∙ c.loop-command.invariant.most;
+      helped = c.serve_command.ensures.helped;
+      misses = omega (arith, c.loop-command.invariant.misses, c.serve_command.ensures.misses);
+      running = misses_both _ _ _ c.args.session.now.events c.loop-command.session.events c.serve_command.new.session.events
+          c.serve_command.ensures.misses c.loop-command.invariant.running c.serve_command.ensures.running;
+      faults = c.in_ok-serve_command.ensures.faults_stay (λ is. absurd (cc)) ∙ c.loop-command.invariant.faults;
     }
 
-pub returns-in_err-serve-clause-serves : goal.returns-in_err-serve-clause-serves
-returns-in_err-serve-clause-serves g c =
+pub returns-in_err-serve_command-clause-serves : goal.returns-in_err-serve_command-clause-serves
+returns-in_err-serve_command-clause-serves g c =
     let taken = g.K.Sink.taken in
-    MatchResult-from_err c.from_residual.result _ _ c.from_residual.ensures.0 (λ _. subst (λ (xs : List Command). StopsIn c.args.session.now.events c.serve.new.session.events (taken c.args.out.now)
-    (taken c.serve.new.out) xs)
+    MatchResult-from_err c.from_residual.result _ _ c.from_residual.ensures.0 (λ _. subst (λ (xs : List Command). StopsIn c.args.session.now.events c.serve_command.new.session.events (taken c.args.out.now)
+    (taken c.serve_command.new.out) xs)
     (sym (c.loop-command.invariant.split
     ∙ ap (λ (xs : List Command). c.loop-command.yielded ++ xs) c.in-Some.ensures.steps.0))
-    (serves_then_stops c.args.session.now.events c.loop-command.session.events c.serve.new.session.events (taken c.args.out.now)
-    (taken c.loop-command.out) (taken c.serve.new.out)
+    (serves_then_stops c.args.session.now.events c.loop-command.session.events c.serve_command.new.session.events (taken c.args.out.now)
+    (taken c.loop-command.out) (taken c.serve_command.new.out)
     c.loop-command.yielded
     (c.in-Some.command ∷ []) c.next.new.self.rest.items c.loop-command.invariant.served
-    c.in_err-serve.ensures.serves))
+    c.in_err-serve_command.ensures.serves))

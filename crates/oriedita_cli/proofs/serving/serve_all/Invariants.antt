@@ -15,5 +15,5 @@ invariant-loop-command g l = record {
   misses : g.H.Helpers.misses l.fn.helpers ≤ g.H.Helpers.misses l.helpers;
   running : AreMisses (g.H.Helpers.misses l.fn.helpers) (g.H.Helpers.misses l.helpers) l.fn.session.events
       l.session.events;
-  faults : g.K.Sink.faults l.fn.out ≤ g.K.Sink.faults l.out;
+  faults : g.K.Sink.faults l.out ≡ g.K.Sink.faults l.fn.out;
 }

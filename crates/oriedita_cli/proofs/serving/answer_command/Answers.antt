@@ -8,7 +8,7 @@ use Rattle.oriedita_cli.specs.Serving.{StopsIn}
 use Rattle.oriedita_cli.proofs.Released.{helped_step}
 use Rattle.oriedita_cli.proofs.Sampling.{answer_last, none_last}
 use Rattle.oriedita_cli.proofs.Stopping.{on_any, stops_before, stops_in_text}
-use Rattle.oriedita_cli.proofs.serving.answer.Goals as goal
+use Rattle.oriedita_cli.proofs.serving.answer_command.Goals as goal
 
 pub returns-in_err-prepare-clause-stops : goal.returns-in_err-prepare-clause-stops
 returns-in_err-prepare-clause-stops g c =
