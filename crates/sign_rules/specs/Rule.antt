@@ -33,11 +33,14 @@ are_different (p ∷ ps) = not (list_any (λ q. p == q) ps) && are_different ps
 abbrev pub is_rule_on : ℕ → Rule → Bool
 is_rule_on pairs rule = list_all (λ p. nat_lt p pairs) (pairs_of rule) && are_different (pairs_of rule)
 
+-- whether signs meet the rule, given by which pairs have Over
+abbrev pub is_met_by : (ℕ → Bool) → Rule → Bool
+is_met_by over (Fixed p sign) = is_same (over p) (is_over sign)
+is_met_by over (Equal p q same) = is_same (is_same (over p) (over q)) same
+is_met_by over (Even p q r s odd) = is_same (count_by over (p ∷ q ∷ r ∷ s ∷ []) % 2 == 1) odd
+is_met_by over (NotCyclic ij jk ik) =
+    not (over ij && over jk && not (over ik)) && not (not (over ij) && not (over jk) && over ik)
+
 -- whether a list with a sign for each pair that the rule names meets it
 abbrev pub is_met : List Sign → Rule → Bool
-is_met signs (Fixed p sign) = is_same (over_at signs p) (is_over sign)
-is_met signs (Equal p q same) = is_same (is_same (over_at signs p) (over_at signs q)) same
-is_met signs (Even p q r s odd) = is_same (count_by (over_at signs) (p ∷ q ∷ r ∷ s ∷ []) % 2 == 1) odd
-is_met signs (NotCyclic ij jk ik) =
-    not (over_at signs ij && over_at signs jk && not (over_at signs ik))
-    && not (not (over_at signs ij) && not (over_at signs jk) && over_at signs ik)
+is_met signs rule = is_met_by (over_at signs) rule

@@ -71,6 +71,15 @@ impl Rules {
         self.rules.len() as u32
     }
 
+    /// The rules in their order.
+    pub fn as_slice(&self) -> &[Rule]
+        ensures value { result.now ≡ self.now.rules }
+        ensures rules { IsTrue (are_rules_on self.now.pairs self.now.rules) }
+        ensures numbers { length self.now.rules < 4294967295 }
+    {
+        self.rules.as_slice()
+    }
+
     /// Whether the numbers of pairs and the lists of rules are equal.
     pub fn same(&self, other: &Rules) -> bool
         ensures { IsTrue result ↔ (self.now ≡ other.now) }
