@@ -1,8 +1,7 @@
 -- What one more event adds to the counts of a record, and that right outcomes stay right.
-use Rattle.std.proofs.Common.{◌≡◌, ℕ, ◌+◌, ◌≤◌, Bool, true, false, cond, List, [], ◌∷◌, ◌++◌, Option, None, Some, is_some, refl, sym, ap, subst, ◌∙◌, arith}
+use Rattle.std.proofs.Common.{◌≡◌, ℕ, ◌+◌, ◌≤◌, Bool, true, false, cond, List, [], ◌∷◌, ◌++◌, Option, None, Some, is_some, refl, ap, subst, ◌∙◌, arith}
 use Rattle.std.specs.Prelude.{⊤, Ok, Err}
 use Rattle.std.specs.declared.result.Result.{Result}
-use Rattle.std.specs.List.{count_by}
 use Rattle.std.proofs.lemmas.List.Sums.{sum_by-append}
 use Rattle.worker_split.specs.declared.answers.JobAnswer.{JobAnswer}
 use Rattle.worker_split.specs.declared.answers.JobAnswer.TheVariants as job_answer
@@ -11,7 +10,7 @@ use Rattle.worker_split.specs.Job.{next_answer, waits_for}
 use Rattle.fold_jobs.specs.declared.folding_job.FoldingJob.{FoldingJob}
 use Rattle.fold_jobs.specs.declared.refusal.JobRefusal.{JobRefusal}
 use Rattle.fold_jobs.specs.declared.refusal.JobRefusal.TheVariants.{NothingAsked}
-use Rattle.fold_jobs.specs.Machine.{JobsView, live_job, answer_told, answer_from, answer_to, needed_from, needed_in, ask_answer, cancel_answer, IsRightIn}
+use Rattle.fold_jobs.specs.Machine.{JobsView, live_job, answer_told, answer_from, needed_from, ask_answer, cancel_answer, IsRightIn}
 use Rattle.fold_jobs.specs.Record.{JobsEvent, after_event, jobs_after}
 use Rattle.fold_jobs.specs.Laws.{RightOutcomesStay}
 use Rattle.script_lang.specs.declared.command.Command.{Command}

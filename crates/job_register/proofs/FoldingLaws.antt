@@ -1,13 +1,8 @@
 -- Each job of a legal record shows the layer orders of the version that it names.
-use Rattle.std.proofs.Common.{◌≡◌, ℕ, ◌+◌, ◌<◌, List, [], ◌∷◌, ◌++◌, length, Option, None, Some, refl, sym, ap, subst, ◌∙◌, append_assoc, arith}
-use Rattle.std.specs.Prelude.{slice_get, option_map, unwrap_or, IsTrue}
+use Rattle.std.proofs.Common.{◌≡◌, ℕ, List, [], ◌∷◌, ◌++◌, Some, refl, sym, ap, subst, ◌∙◌}
 use Rattle.std.proofs.lemmas.List.{append-nil}
-use Rattle.crease_model.specs.View.{PatternView, empty_on}
-use Rattle.crease_model.specs.Sheet.{square_corners}
-use Rattle.undo_journal.specs.declared.Version.{Version}
-use Rattle.undo_journal.specs.Versions.{JournalView, pattern_at, current_pattern}
-use Rattle.sign_rules.specs.declared.sign.Sign.{Sign}
-use Rattle.sign_rules.specs.Rules.{RulesView, is_consistent}
+use Rattle.crease_model.specs.View.{PatternView}
+use Rattle.undo_journal.specs.Versions.{JournalView, pattern_at}
 use Rattle.order_search.specs.Lists.{orders}
 use Rattle.order_search.specs.OrderedLists.{AreInOrder, OrdersAreInOrder}
 use Rattle.job_enumeration.specs.Closings.{closings, closings_from}
@@ -23,12 +18,12 @@ use Rattle.script_lang.specs.declared.command.Command.TheVariants.{Fold}
 use Rattle.script_lang.specs.declared.reply.Reply.TheVariants as reply
 use Rattle.job_register.specs.declared.session.Event.{Event}
 use Rattle.job_register.specs.declared.session.Event.TheVariants.{Made}
-use Rattle.job_register.specs.Edits.{first_journal, current_pattern_of}
+use Rattle.job_register.specs.Edits.{current_pattern_of}
 use Rattle.job_register.specs.Machine.{State, first_state, IsJobOn}
 use Rattle.job_register.specs.Layers.{IsLayersOf}
-use Rattle.job_register.specs.Legal.{Lead, IsSessionStep, IsLegal, journal_after}
+use Rattle.job_register.specs.Legal.{Lead, IsLegal, journal_after}
 use Rattle.job_register.specs.RecordVersions.{version_in}
-use Rattle.job_register.specs.FoldingRecords.{shown_in, closings_in, closings_past, ShowsLayerOrders, LegalRecordsEnumerate}
+use Rattle.job_register.specs.FoldingRecords.{closings_in, closings_past, ShowsLayerOrders, LegalRecordsEnumerate}
 use Rattle.job_register.proofs.Records.{lead_split, lead_journal}
 use Rattle.job_register.proofs.Versions.{versions_stay, current_there}
 use Rattle.job_register.proofs.JobRecords.{Tells, tells_both, tells_opened, told_lead}

@@ -16,7 +16,7 @@ use Rattle.crease_store.specs.Loading.{LoadRefusal, load_of}
 use Rattle.undo_journal.specs.Versions.{JournalView, greatest_version, greatest_of, committed, undone, redone}
 use Rattle.sign_rules.specs.Rules.{RulesView}
 use Rattle.worker_split.specs.declared.outcome.Outcome.{Outcome}
-use Rattle.job_enumeration.specs.Closings.{Closing, closings_from}
+use Rattle.job_enumeration.specs.Closings.{closings_from}
 use Rattle.job_enumeration.specs.Closings.{Shown as closing_shown, NoMore as closing_end, Paused as closing_pause}
 use Rattle.fold_jobs.specs.declared.folding_job.FoldingJob.{FoldingJob}
 use Rattle.fold_jobs.specs.declared.folding_job.FoldAnswer.{FoldAnswer}

@@ -1,8 +1,8 @@
 -- A record with one more event.
-use Rattle.std.proofs.Common.{◌≡◌, ℕ, ◌-◌, ◌+◌, Bool, true, false, ◌||◌, List, [], ◌∷◌, ◌++◌, length, Option, None, Some, refl, sym, ap, subst, ◌∙◌, append_assoc, length-append, arith}
-use Rattle.std.specs.Prelude.{⊤, Ok, Err, IsTrue}
+use Rattle.std.proofs.Common.{◌≡◌, ℕ, ◌-◌, Bool, true, false, ◌||◌, List, [], ◌∷◌, ◌++◌, length, Option, None, Some, refl, sym, ap, subst, ◌∙◌, append_assoc, length-append, arith}
+use Rattle.std.specs.Prelude.{⊤, Ok, Err}
 use Rattle.std.specs.declared.result.Result.{Result}
-use Rattle.std.specs.List.{slice_get, list_any}
+use Rattle.std.specs.List.{slice_get}
 use Rattle.std.proofs.lemmas.List.{append-nil}
 use Rattle.std.proofs.Math.Bool.{or-false, or_assoc}
 use Rattle.undo_journal.specs.Versions.{JournalView}
@@ -15,7 +15,7 @@ use Rattle.fold_jobs.specs.declared.folding_job.FoldingJob.{FoldingJob}
 use Rattle.fold_jobs.specs.declared.folding_job.FoldAnswer.{FoldAnswer}
 use Rattle.fold_jobs.specs.declared.folding_job.FoldAnswer.TheVariants.{Shown, NoMore, Paused, NotReady}
 use Rattle.fold_jobs.specs.declared.refusal.JobRefusal.{JobRefusal}
-use Rattle.fold_jobs.specs.Machine.{JobsView, job_at, changed_from, changed, ask_answer, after_ask, answer_to, answered, after_answer_to, cancel_answer, after_cancel, posted_in}
+use Rattle.fold_jobs.specs.Machine.{JobsView, job_at, changed_from, ask_answer, after_ask, answer_to, after_answer_to, cancel_answer, after_cancel}
 use Rattle.job_register.specs.declared.session.Event.{Event}
 use Rattle.job_register.specs.declared.session.Event.TheVariants.{Made, Posted}
 use Rattle.job_register.specs.Edits.{EditAnswer, answer, first_journal}

@@ -1,9 +1,11 @@
 -- What the definitions say where the answer of the code tells it.
-use Rattle.std.proofs.Common.{◌≡◌, ℕ, false, refl, sym, ap, ap₂, subst, ◌∙◌}
-use Rattle.std.specs.Prelude.{⊤, Option, None, Some, Err, IsFalse}
+use Rattle.std.proofs.Common.{◌≡◌, ℕ, false, arith, refl, sym, ap, ap₂, subst, ◌∙◌}
+use Rattle.std.specs.Prelude.{⊤, Option, None, Some, Err, IsFalse, option_map, unwrap_or}
 use Rattle.std.specs.declared.result.Result.{Result}
 use Rattle.std.proofs.lemmas.Option.{same_Some}
-use Rattle.crease_model.specs.View.{PatternView}
+use Rattle.crease_model.specs.View.{PatternView, empty_on}
+use Rattle.crease_model.specs.Sheet.{square_corners}
+use Rattle.crease_model.specs.Rules.{size_of}
 use Rattle.crease_store.specs.declared.faults.StoreRefusal.{StoreRefusal}
 use Rattle.crease_store.specs.Answer.{IsRefusal}
 use Rattle.crease_store.specs.Loading.{LoadRefusal, refused_line, IsLoadRefusal}
@@ -38,6 +40,11 @@ pub load_refusal_told : (number : ℕ) (o : Option StoreRefusal) (refusal : Stor
     → answer ≡ Err (refused_line number refusal)
 load_refusal_told number o refusal answer told is =
     subst (λ (t : Option StoreRefusal). IsLoadRefusal number t answer) is told
+
+pub size_told : (o : Option PatternView)
+    → unwrap_or (option_map size_of o) 0 ≡ size_of (unwrap_or o (empty_on square_corners))
+size_told None = omega arith
+size_told (Some p) = refl
 
 abbrev pub answer_with : Reply → JournalView → EditAnswer
 answer_with reply j = record { reply = reply; journal = j }

@@ -1,5 +1,5 @@
 -- A version keeps its pattern through each answer of the machine, and undo brings back the pattern before a change.
-use Rattle.std.proofs.Common.{◌≡◌, ℕ, ◌-◌, ◌<◌, inl, inr, true, false, List, [], ◌∷◌, ◌++◌, length, Option, None, Some, refl, ap, sym, ◌∙◌, arith, subst}
+use Rattle.std.proofs.Common.{◌≡◌, ℕ, ◌-◌, ◌<◌, inl, inr, true, false, List, [], ◌∷◌, length, Option, None, Some, refl, ap, sym, ◌∙◌, arith, subst}
 use Rattle.std.specs.Prelude.{Ok, Err, nat_eq}
 use Rattle.std.specs.declared.result.Result.{Result}
 use Rattle.std.specs.Prelude.{option_map, unwrap_or}
@@ -16,8 +16,7 @@ use Rattle.crease_store.specs.Adding.{add_of}
 use Rattle.crease_store.specs.Changed.{delete_of, set_of, clear_of}
 use Rattle.crease_store.specs.Merged.{merge_of}
 use Rattle.crease_store.specs.Loading.{LoadRefusal, load_of}
-use Rattle.undo_journal.specs.declared.Version.{Version}
-use Rattle.undo_journal.specs.Versions.{JournalView, greatest_version, committed, undone, redone, pattern_at, current_pattern, KeepsPatterns}
+use Rattle.undo_journal.specs.Versions.{Version, JournalView, greatest_version, committed, undone, redone, pattern_at, current_pattern, KeepsPatterns}
 use Rattle.undo_journal.specs.Invariant.{IsJournal}
 use Rattle.undo_journal.specs.JournalLaws.{committed_keeps, committed_taken_back, redone_keeps, IsJournal-opened, IsJournal-committed, IsJournal-undone, IsJournal-redone}
 use Rattle.script_lang.specs.declared.block.LoadStop.{LoadStop}
@@ -29,7 +28,7 @@ use Rattle.job_register.specs.declared.session.Event.{Event}
 use Rattle.job_register.specs.declared.session.Event.TheVariants.{Made, Posted}
 use Rattle.job_register.specs.Edits.{EditAnswer, first_journal, current_pattern_of, committed_answer, change_answer, sheet_answer, stop_answer, load_answer, undo_answer, redone_answer, answer}
 use Rattle.job_register.specs.Machine.{State, first_state, IsEdit, IsAnswered}
-use Rattle.job_register.specs.Legal.{Lead, journal_of, journal_past, journal_from, journal_after, is_refusal}
+use Rattle.job_register.specs.Legal.{journal_of, journal_past, journal_from, journal_after, is_refusal}
 use Rattle.job_register.specs.RecordVersions.{is_change, VersionsStay, UndoBringsBack, RedoGoesBack}
 use Rattle.job_register.proofs.Records.{journal_from-append, lead_split, lead_journal}
 

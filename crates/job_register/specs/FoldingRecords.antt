@@ -11,8 +11,7 @@ use Rattle.fold_jobs.specs.OwnEvents.{ShownOrder}
 use Rattle.fold_jobs.specs.Laws.{AreShown}
 use Rattle.layer_rules.specs.LayerOrder.{IsLayerOrder}
 use Rattle.layer_rules.specs.Layering.{LayeringView, kinds_of}
-use Rattle.script_lang.specs.declared.command.Command.{Command}
-use Rattle.script_lang.specs.declared.command.Command.TheVariants.{Fold, Budget}
+use Rattle.script_lang.specs.declared.command.Command.TheVariants.{Fold}
 use Rattle.script_lang.specs.declared.reply.Reply.{Reply}
 use Rattle.script_lang.specs.declared.reply.Reply.TheVariants as reply
 use Rattle.job_register.specs.declared.session.Event.{Event}

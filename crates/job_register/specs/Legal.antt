@@ -1,5 +1,5 @@
 -- Records of a session, and which of them are legal.
-use Rattle.std.specs.Prelude.{◌≡◌, ℕ, Bool, true, false, List, [], ◌∷◌, ◌++◌, Option, None, Some, IsTrue}
+use Rattle.std.specs.Prelude.{◌≡◌, ℕ, Bool, true, false, List, [], ◌∷◌, Option, None, Some, IsTrue}
 use Rattle.std.specs.List.{list_any}
 use Rattle.undo_journal.specs.Versions.{JournalView}
 use Rattle.worker_split.specs.declared.answers.Taken.{Taken}

@@ -18,8 +18,6 @@ use Rattle.fold_jobs.specs.Record.{IsRightPostIn}
 use Rattle.layer_rules.specs.declared.layering.InstanceFault.{InstanceFault}
 use Rattle.layer_rules.specs.declared.layering.InstanceFault.TheVariants as fault
 use Rattle.layer_rules.specs.Layering.{LayeringView, IsInstanceFault}
-use Rattle.job_register.specs.declared.session.Event.{Event}
-use Rattle.job_register.specs.declared.session.Event.TheVariants.{Made, Posted}
 use Rattle.job_register.specs.Edits.{EditAnswer, answer, first_journal, current_pattern_of}
 use Rattle.job_register.specs.Layers.{IsLayersOf}
 

@@ -35,26 +35,30 @@ pub(crate) fn answer_command<R: Threads + Sync>(
     ensures err_jobs { OnErr result (jobs.new ≡ jobs.old) }
 {
     *faults = None;
-    let pattern = journal.current_pattern();
     match command {
         Command::Add { kind, from, to } => {
-            let change = add(alloc, pattern, *kind, from, to);
+            let pattern = journal.current_pattern()?;
+            let change = add(alloc, pattern.as_ref(), *kind, from, to);
             commit_change(journal, change)
         }
         Command::Delete { from, to } => {
-            let change = delete(alloc, pattern, from, to);
+            let pattern = journal.current_pattern()?;
+            let change = delete(alloc, pattern.as_ref(), from, to);
             commit_change(journal, change)
         }
         Command::Set { kind, from, to } => {
-            let change = set_kind(alloc, pattern, *kind, from, to);
+            let pattern = journal.current_pattern()?;
+            let change = set_kind(alloc, pattern.as_ref(), *kind, from, to);
             commit_change(journal, change)
         }
         Command::Merge => {
-            let change = merge(alloc, pattern);
+            let pattern = journal.current_pattern()?;
+            let change = merge(alloc, pattern.as_ref());
             commit_change(journal, change)
         }
         Command::Clear => {
-            let change = clear(pattern);
+            let pattern = journal.current_pattern()?;
+            let change = clear(pattern.as_ref());
             commit_change(journal, change)
         }
         Command::Sheet { corners } => new_sheet(alloc, journal, corners),

@@ -22,11 +22,13 @@ use undo_journal::{Journal, JournalFault};
 use vertex_checks::{VertexFault, check};
 
 /// The current version and the size of its pattern.
+#[tactic(auto, using(crate::proofs::Told::size_told))]
 fn current_version(journal: &Journal) -> (u32, u32)
     ensures version { result.0 ≡ journal.now.current }
     ensures pieces { result.1 ≡ size_of (current_pattern_of journal.now) }
 {
-    (journal.current(), journal.current_pattern().size())
+    let version = journal.current();
+    (version, journal.size(version).unwrap_or(0))
 }
 
 fn version_reply(journal: &Journal) -> Reply
@@ -122,7 +124,8 @@ pub(crate) fn load_block(
         (load_of (current_pattern_of journal.old) lines.now)) }
     ensures err { OnErr result (journal.new ≡ journal.old) }
 {
-    match load(alloc, journal.current_pattern(), lines.as_slice()) {
+    let pattern = journal.current_pattern()?;
+    match load(alloc, pattern.as_ref(), lines.as_slice()) {
         Ok(pattern) => stop(journal, pattern, end),
         Err(LoadStoreFault { number, fault }) => match fault.refusal() {
             Some(refusal) => Ok(Reply::Refused {
@@ -161,15 +164,17 @@ pub(crate) fn redo(journal: &mut Journal) -> Reply
 // Counts the faults of the current version, and keeps them for the text of the reply.
 pub(crate) fn count_faults(
     alloc: Global,
-    journal: &Journal,
+    journal: &mut Journal,
     faults: &mut Option<Vec<VertexFault>>,
 ) -> Result<Reply, AllocError>
-    ensures ok { IfOk result (λ reply. Some (record { reply = reply; journal = journal.now })
-        ≡ answer journal.now Command.Check) }
-    ensures current { OnOk result (AreCurrent faults.new journal.now) }
+    ensures ok { IfOk result (λ reply. Some (record { reply = reply; journal = journal.new })
+        ≡ answer journal.old Command.Check) }
+    ensures current { OnOk result (AreCurrent faults.new journal.new) }
+    ensures same { journal.new ≡ journal.old }
     ensures err { OnErr result (faults.new ≡ faults.old) }
 {
-    let found = check(alloc, journal.current_pattern())?;
+    let pattern = journal.current_pattern()?;
+    let found = check(alloc, pattern.as_ref())?;
     let count = found.as_slice().len() as u32;
     *faults = Some(found);
     Ok(Reply::Checked {

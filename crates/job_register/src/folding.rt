@@ -77,11 +77,12 @@ fn open_job(
 pub(crate) fn fold<R: Threads + Sync>(
     rt: &R,
     alloc: Global,
-    journal: &Journal,
+    journal: &mut Journal,
     jobs: &mut Jobs,
 ) -> Result<Reply, AllocError>
-    ensures ok { IfOk result (λ reply. IsFoldReply (record { journal = journal.now; jobs = jobs.old }) reply
-        (record { journal = journal.now; jobs = jobs.new })) }
+    ensures ok { IfOk result (λ reply. IsFoldReply (record { journal = journal.old; jobs = jobs.old }) reply
+        (record { journal = journal.new; jobs = jobs.new })) }
+    ensures same { journal.new ≡ journal.old }
     ensures err { OnErr result (jobs.new ≡ jobs.old) }
 {
     if jobs.is_full() {
@@ -89,7 +90,8 @@ pub(crate) fn fold<R: Threads + Sync>(
             refusal: Refusal::TooManyJobs,
         });
     }
-    match instance(rt, alloc, journal.current_pattern()) {
+    let pattern = journal.current_pattern()?;
+    match instance(rt, alloc, pattern.as_ref()) {
         Ok(layers) => open_job(alloc, journal, jobs, &layers),
         Err(fault) => match refusal_of_layers(fault) {
             Some(refusal) => Ok(Reply::Refused { refusal }),

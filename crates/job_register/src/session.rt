@@ -274,8 +274,8 @@ impl Session {
             ++ listing_text (pattern_at (journal_after self.now.events) version)) }
         ensures err { OnErr result (out.new.items ≡ out.old.items) }
     {
-        match self.journal.get(version) {
-            Some(pattern) => write_pattern(out, pattern),
+        match self.journal.get(version)? {
+            Some(pattern) => write_pattern(out, pattern.as_ref()),
             None => Ok(()),
         }
     }
@@ -286,15 +286,17 @@ impl Session {
             ++ checks_text (pattern_at (journal_after self.now.events) version)) }
         ensures err { OnErr result (out.new.items ≡ out.old.items) }
     {
-        match (&self.faults, self.journal.get(version)) {
-            (_, None) => Ok(()),
-            (Some(faults), Some(_)) if version == self.journal.current() => {
+        if let Some(faults) = &self.faults {
+            if version == self.journal.current() {
+                return write_faults(out, faults.as_slice());
+            }
+        }
+        match self.journal.get(version)? {
+            Some(pattern) => {
+                let faults = check(*out.allocator(), pattern.as_ref())?;
                 write_faults(out, faults.as_slice())
             }
-            (_, Some(pattern)) => {
-                let faults = check(*out.allocator(), pattern)?;
-                write_faults(out, faults.as_slice())
-            }
+            None => Ok(()),
         }
     }
 

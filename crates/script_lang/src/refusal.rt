@@ -53,7 +53,7 @@ pub enum Refusal {
     NoSuchPiece,
     /// The corners are no sheet: this one, from 1, is the first bad one, or 0 where only the sum of the turns is wrong.
     BadSheet { corner: u32 },
-    /// Version 1000 is the last one.
+    /// Version 10000 is the last one.
     Full,
     /// Version 0 is current.
     NothingToUndo,

@@ -1,1 +1,5 @@
 pub mod Undoing
+pub mod Same
+pub mod EditedLists
+pub mod StoredVersions
+pub mod Committing

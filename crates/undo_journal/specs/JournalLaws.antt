@@ -4,8 +4,7 @@ use Rattle.std.specs.Prelude.{unwrap_or}
 use Rattle.std.proofs.lemmas.Bool.{cases_lt}
 use Rattle.std.proofs.lemmas.List.{length-append}
 use Rattle.crease_model.specs.View.{PatternView}
-use Rattle.undo_journal.specs.declared.Version.{Version}
-use Rattle.undo_journal.specs.Versions.{JournalView, greatest_version, new_journal, committed, undone, redone, pattern_at, current_pattern, parent_at, redone_to, KeepsPatterns}
+use Rattle.undo_journal.specs.Versions.{Version, JournalView, greatest_version, new_journal, committed, undone, redone, pattern_at, current_pattern, parent_at, redone_to, KeepsPatterns}
 use Rattle.undo_journal.specs.Invariant.{IsRedoable, IsMadeInTurn, IsJournal}
 
 -- ---- versions with one more behind them

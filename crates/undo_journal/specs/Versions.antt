@@ -2,11 +2,15 @@
 -- numbers that redo goes back to, the last one first.
 use Rattle.std.specs.Prelude.{◌≡◌, ℕ, ◌-◌, List, [], ◌∷◌, ◌++◌, length, Option, None, Some, slice_get, option_map, unwrap_or}
 use Rattle.crease_model.specs.View.{PatternView}
-use Rattle.undo_journal.specs.declared.Version.{Version}
 
 -- the last version number
 abbrev pub greatest_version : ℕ
-greatest_version = 1000
+greatest_version = 10000
+
+-- a pattern, and the number of the version that it was made from (0 for version 0)
+pub record Version : Type 0 where
+  pub pattern : PatternView
+  pub parent : ℕ
 
 pub record JournalView : Type 0 where
   pub versions : List Version

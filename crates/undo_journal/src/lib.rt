@@ -1,29 +1,29 @@
 //! The version journal of an editor: every accepted change is a version, undo goes to the version that the current one
-//! was made from, and redo goes back.
+//! was made from, and redo goes back. A version is kept as its change; some are kept whole.
 #![tactic(auto)]
 
-ghost use Rattle.std.specs.Prelude.{◌≡◌, ℕ, [], ◌-◌, ◌<◌, ◌↔◌, length, IfOk, IfErr, OnOk, OnErr, IsErr, IsErrOf, MatchResult, MatchOption, IsNone, Some, None};
+ghost use Rattle.std.specs.Prelude.{◌≡◌, ℕ, [], ◌-◌, ◌<◌, ◌≤◌, ◌↔◌, length, IfOk, IfErr, OnOk, OnErr, IsErr, IsErrOf, MatchResult, MatchOption, IsNone, Some, None, option_map};
+ghost use Rattle.std.specs.Arc.{arc_value};
+ghost use Rattle.crease_model.specs.Rules.{size_of};
 ghost use Rattle.undo_journal.specs.Versions.{greatest_version, new_journal, committed, undone, redone, greatest_of, pattern_at, current_pattern, KeepsPatterns};
+
+mod edits;
+mod steps;
 
 use crease_model::Pattern;
 use std::alloc::{AllocError, AllocFailed, Global};
 use std::marker::Model;
+use std::sync::Arc;
+use steps::{Kept, Step, kept_of, pattern_of, shared};
 use thiserror::Error;
 
 /// The last version number.
-pub const GREATEST: usize = 1000;
-
-/// A pattern, and the number of the version that it was made from (0 for version 0).
-#[derive(Drop)]
-pub struct Version {
-    pub pattern: Pattern,
-    pub parent: u32,
-}
+pub const GREATEST: usize = 10_000;
 
 /// Why a pattern did not become a version.
 #[derive(Clone, Copy, Debug, PartialEq, Eq, Error)]
 pub enum JournalFault {
-    #[error("version 1000 is the last one")]
+    #[error("version 10000 is the last one")]
     Full,
     #[error("out of memory")]
     Memory,
@@ -70,48 +70,64 @@ pub struct NothingToUndo;
 #[error("nothing to redo")]
 pub struct NothingToRedo;
 
-/// All versions, the current number, and the redo list.
+/// All versions, the current number, and the redo list. One pattern is at hand, most often that of the current version.
 #[derive(Drop)]
 pub struct Journal {
-    versions: Vec<Version>,
+    steps: Vec<Step>,
     current: u32,
     redo: Vec<u32>,
+    hand_version: u32,
+    hand: Arc<Pattern>,
 }
 
 impl Model for Journal {
     ghost use Rattle.std.specs.Prelude.{reverse, vec_capacity, length, ◌≤◌};
+    ghost use Rattle.std.specs.Arc.{arc_value};
     ghost use Rattle.undo_journal.specs.Versions.{JournalView};
-    ghost use Rattle.undo_journal.specs.Invariant.{IsJournal};
+    ghost use Rattle.undo_journal.specs.Steps.{versions_of};
+    ghost use Rattle.undo_journal.specs.Invariant.{IsJournal, IsStored};
 
     ghost Value = { JournalView };
 
     ghost view = { λ j. record {
-      versions = j.versions.items;
+      versions = versions_of j.steps.items;
       current = j.current;
       redo = reverse j.redo.items;
     } };
 
     // The room that undo needs in the redo list is taken with each version.
     ghost invariant = { λ j.
-        IsJournal (record { versions = j.versions.items; current = j.current; redo = reverse j.redo.items })
-        × (length j.versions.items ≤ vec_capacity j.redo) };
+        IsJournal (record
+        { versions = versions_of j.steps.items; current = j.current; redo = reverse j.redo.items })
+        × (length j.steps.items ≤ vec_capacity j.redo)
+        × IsStored j.steps.items j.hand_version (arc_value j.hand) };
 }
 
 impl Journal {
+    ghost use Rattle.undo_journal.specs.Invariant.{IsNextStep};
+
     /// The journal whose version 0 is this pattern.
     pub fn open(alloc: Global, first: Pattern) -> Result<Journal, AllocError>
         ensures { IfOk result (λ journal. journal ≡ new_journal first) }
     {
+        // tells the rules of the pattern
+        let _ = first.pieces();
+        let size = first.size();
         let redo = Vec::with_capacity(alloc, 1)?;
-        let mut versions = Vec::with_capacity(alloc, 1)?;
-        versions.push(Version {
-            pattern: first,
+        let mut steps = Vec::with_capacity(alloc, 1)?;
+        let hand = shared(alloc, first)?;
+        steps.push(Step {
             parent: 0,
+            depth: 0,
+            size,
+            kept: Kept::Whole(Arc::try_clone(&hand)?),
         })?;
         Ok(Journal {
-            versions,
+            steps,
             current: 0,
             redo,
+            hand_version: 0,
+            hand,
         })
     }
 
@@ -125,27 +141,59 @@ impl Journal {
 
     /// The greatest number.
     pub fn greatest(&self) -> u32
-        ensures { result ≡ greatest_of self.now }
+        ensures value { result ≡ greatest_of self.now }
+        ensures most { result ≤ greatest_version }
     {
-        (self.versions.len() - 1) as u32
+        (self.steps.len() - 1) as u32
     }
 
-    /// The pattern of a version.
-    pub fn get(&self, version: u32) -> Option<&Pattern>
-        ensures { MatchOption result (pattern_at self.now version ≡ None)
-            (λ p. pattern_at self.now version ≡ Some p.now) }
+    /// The number of pieces and auxiliary lines of a version.
+    pub fn size(&self, version: u32) -> Option<u32>
+        ensures { result ≡ option_map size_of (pattern_at self.now version) }
     {
-        match self.versions.get(version as usize) {
-            Some(v) => Some(&v.pattern),
-            None => None,
+        if (version as usize) < self.steps.len() {
+            Some(self.steps[version as usize].size)
+        } else {
+            None
         }
     }
 
-    /// The pattern of the current version.
-    pub fn current_pattern(&self) -> &Pattern
-        ensures { pattern_at self.now self.now.current ≡ Some result.now }
+    fn allocator(&self) -> Global {
+        *self.steps.allocator()
+    }
+
+    /// The pattern of a version, shared.
+    pub fn get(&self, version: u32) -> Result<Option<Arc<Pattern>>, AllocError>
+        ensures pattern { IfOk result (λ found. option_map arc_value found ≡ pattern_at self.now version) }
+        ensures missing { IfOk result (λ found. IsNone found → greatest_of self.now < version) }
     {
-        &self.versions[self.current as usize].pattern
+        if version as usize >= self.steps.len() {
+            return Ok(None);
+        }
+        Ok(Some(pattern_of(
+            self.allocator(),
+            self.steps.as_slice(),
+            self.hand_version,
+            &self.hand,
+            version,
+        )?))
+    }
+
+    /// Takes the pattern of the current version to hand, and shares it.
+    pub fn current_pattern(&mut self) -> Result<Arc<Pattern>, AllocError>
+        ensures pattern { IfOk result (λ p. pattern_at self.old self.old.current ≡ Some (arc_value p)) }
+        ensures same { self.new ≡ self.old }
+    {
+        let pattern = pattern_of(
+            self.allocator(),
+            self.steps.as_slice(),
+            self.hand_version,
+            &self.hand,
+            self.current,
+        )?;
+        self.hand = Arc::try_clone(&pattern)?;
+        self.hand_version = self.current;
+        Ok(pattern)
     }
 
     /// A copy of the pattern of a version.
@@ -153,13 +201,49 @@ impl Journal {
         ensures ok { IfOk result (λ p. pattern_at self.now version ≡ Some p) }
         ensures missing { IsErrOf result VersionFault.NoSuchVersion ↔ (greatest_of self.now < version) }
     {
-        match self.versions.get(version as usize) {
-            Some(v) => {
-                let copied = v.pattern.copy()?;
-                Ok(copied)
-            }
+        if version > self.greatest() {
+            return Err(VersionFault::NoSuchVersion);
+        }
+        match self.get(version)? {
+            Some(pattern) => Ok(pattern.as_ref().copy()?),
             None => Err(VersionFault::NoSuchVersion),
         }
+    }
+
+    // What is kept of a pattern that is made from the current one.
+    fn next_step(&mut self, pattern: &Arc<Pattern>) -> Result<Step, AllocError>
+        ensures step { IfOk result (IsNextStep self.old (arc_value pattern.now)) }
+        ensures same { self.new ≡ self.old }
+    {
+        // tells the rules of the pattern
+        let _ = pattern.as_ref().pieces();
+        let parent = self.current_pattern()?;
+        let depth = self.steps[self.current as usize].depth.saturating_add(1);
+        let kept = kept_of(self.allocator(), depth, parent.as_ref(), pattern)?;
+        Ok(Step {
+            parent: self.current,
+            depth,
+            size: pattern.as_ref().size(),
+            kept,
+        })
+    }
+
+    // Adds what is kept of a pattern, and takes that to hand.
+    fn push(&mut self, step: Step, hand: Arc<Pattern>) -> Result<(), AllocError>
+        requires room { length self.old.versions ≤ greatest_version }
+        requires next { IsNextStep self.old (arc_value hand) step }
+        ensures ok { OnOk result (self.new ≡ committed self.old (arc_value hand)) }
+        ensures err { OnErr result (self.new ≡ self.old) }
+    {
+        let count = self.steps.len();
+        self.redo.reserve(count + 1 - self.redo.len())?;
+        self.steps.reserve(1)?;
+        self.steps.push(step).unwrap();
+        self.current = count as u32;
+        self.redo.clear();
+        self.hand_version = count as u32;
+        self.hand = hand;
+        Ok(())
     }
 
     /// Makes the pattern a new version, whose parent is the current one, and empties the redo list. The number is the
@@ -174,20 +258,14 @@ impl Journal {
         ensures patterns { KeepsPatterns self.old self.new }
         ensures undone { OnOk result (current_pattern (undone self.new) ≡ current_pattern self.old) }
     {
-        let count = self.versions.len();
-        if count > GREATEST {
+        if self.greatest() as usize >= GREATEST {
             return Err(JournalFault::Full);
         }
-        self.redo.reserve(count + 1 - self.redo.len())?;
-        self.versions.reserve(1)?;
-        self.versions
-            .push(Version {
-                pattern,
-                parent: self.current,
-            })
-            .unwrap();
-        self.current = count as u32;
-        self.redo.clear();
+        // tells that there is a current version
+        let _ = self.current();
+        let hand = shared(self.allocator(), pattern)?;
+        let step = self.next_step(&hand)?;
+        self.push(step, hand)?;
         Ok(self.current)
     }
 
@@ -204,7 +282,7 @@ impl Journal {
         if self.current == 0 {
             return Err(NothingToUndo);
         }
-        let parent = self.versions[self.current as usize].parent;
+        let parent = self.steps[self.current as usize].parent;
         self.redo.push(self.current).unwrap();
         self.current = parent;
         Ok(parent)

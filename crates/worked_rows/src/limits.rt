@@ -37,12 +37,12 @@ fn clears(alloc: Global, versions: u32) -> Result<(String, String), AllocError> 
 }
 
 #[test]
-fn there_are_a_thousand_versions_at_most(rt: HostRuntime) -> Result<(), Fail> {
-    let (mut script, mut replies) = clears(rt.alloc(), 1_000)?;
+fn there_are_ten_thousand_versions_at_most(rt: HostRuntime) -> Result<(), Fail> {
+    let (mut script, mut replies) = clears(rt.alloc(), 10_000)?;
     script.push_str("clear\nundo\n")?;
-    replies.push_str("refused full\nversion 999 pieces 0\n")?;
+    replies.push_str("refused full\nversion 9999 pieces 0\n")?;
     let (status, sink) = answer(&rt, rt.alloc(), script.as_bytes(), ROOM, ROOM, &[], &[])?;
-    has_text(&rt, &sink, replies.as_str(), "a thousand clears");
+    has_text(&rt, &sink, replies.as_str(), "ten thousand clears");
     assert_eq!(rt; status, 1);
     Ok(())
 }
@@ -51,7 +51,7 @@ fn there_are_a_thousand_versions_at_most(rt: HostRuntime) -> Result<(), Fail> {
 // and an undo makes no room.
 #[test]
 fn the_last_version_is_the_last(rt: HostRuntime) -> Result<(), Fail> {
-    let (mut script, mut replies) = clears(rt.alloc(), 999)?;
+    let (mut script, mut replies) = clears(rt.alloc(), 9_999)?;
     script.push_str(
         "2 0 -200 0 200\n\
          3 -200 0 200 0\n\
@@ -78,12 +78,12 @@ fn the_last_version_is_the_last(rt: HostRuntime) -> Result<(), Fail> {
          load\n",
     )?;
     replies.push_str(
-        "version 1000 pieces 1\n\
+        "version 10000 pieces 1\n\
          refused full\n\
          refused zerolength\n\
-         version 999 pieces 0\n\
+         version 9999 pieces 0\n\
          refused full\n\
-         version 1000 pieces 1\n\
+         version 10000 pieces 1\n\
          refused full\n\
          refused full\n\
          refused outsidesheet\n\

@@ -1,9 +1,8 @@
-use Rattle.std.proofs.Common.{rules, ◌≡◌, ◌||◌, ◌++◌, ◌∷◌, [], List, Some, ap, sym, subst, ◌∙◌}
+use Rattle.std.proofs.Common.{rules, ◌≡◌, ◌++◌, ◌∷◌, [], List, Some, ap, sym, subst, ◌∙◌}
 use Rattle.fold_jobs.specs.Machine.{IsRightIn}
 use Rattle.job_register.specs.declared.session.Event.{Event}
 use Rattle.job_register.specs.declared.session.Event.TheVariants.{Made}
-use Rattle.job_register.specs.Legal.{is_refusal}
-use Rattle.job_register.specs.Machine.{State, IsReady}
+use Rattle.job_register.specs.Machine.{IsReady}
 use Rattle.job_register.specs.RecordVersions.{version_in}
 use Rattle.job_register.specs.View.{SessionView}
 use Rattle.job_register.proofs.Records.{step_most, text_pushed, commands_in-append, keeps_on}
