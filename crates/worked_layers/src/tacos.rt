@@ -147,9 +147,11 @@ fn counts_layer_orders(rt: HostRuntime) -> Result<(), Fail> {
         let shape = shape(rt.alloc(), row)?;
         if shape.folded().faces().len() <= 65536 {
             let found = pairs(&rt, rt.alloc(), &shape)?;
-            let rules = order_rules(rt.alloc(), &shape, row.kinds, found.as_slice())?;
-            let count = unbroken(rt.alloc(), rules.as_slice(), found.len(), *lists)?;
-            assert!(rt; count == *wanted);
+            if shape.folded().creases().len() <= 2000 {
+                let rules = order_rules(rt.alloc(), &shape, row.kinds, found.as_slice())?;
+                let count = unbroken(rt.alloc(), rules.as_slice(), found.len(), *lists)?;
+                assert!(rt; count == *wanted);
+            }
         }
     }
     Ok(())
