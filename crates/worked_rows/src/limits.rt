@@ -4,6 +4,9 @@ use crate::runs::{ROOM, answer, has_text};
 use std::alloc::{AllocError, Global};
 use std::test::Fail;
 
+/// The room for the replies to ten thousand commands.
+const LONG_ROOM: usize = 262_144;
+
 // Empty lines and then `undo`, of a length in all.
 fn long_script(alloc: Global, length: usize) -> Result<Vec<u8>, AllocError> {
     let mut script = Vec::new(alloc);
@@ -41,7 +44,15 @@ fn there_are_ten_thousand_versions_at_most(rt: HostRuntime) -> Result<(), Fail> 
     let (mut script, mut replies) = clears(rt.alloc(), 10_000)?;
     script.push_str("clear\nundo\n")?;
     replies.push_str("refused full\nversion 9999 pieces 0\n")?;
-    let (status, sink) = answer(&rt, rt.alloc(), script.as_bytes(), ROOM, ROOM, &[], &[])?;
+    let (status, sink) = answer(
+        &rt,
+        rt.alloc(),
+        script.as_bytes(),
+        ROOM,
+        LONG_ROOM,
+        &[],
+        &[],
+    )?;
     has_text(&rt, &sink, replies.as_str(), "ten thousand clears");
     assert_eq!(rt; status, 1);
     Ok(())
@@ -99,7 +110,15 @@ fn the_last_version_is_the_last(rt: HostRuntime) -> Result<(), Fail> {
          refused load 1 unknownword\n\
          refused load unended\n",
     )?;
-    let (status, sink) = answer(&rt, rt.alloc(), script.as_bytes(), ROOM, ROOM, &[], &[])?;
+    let (status, sink) = answer(
+        &rt,
+        rt.alloc(),
+        script.as_bytes(),
+        ROOM,
+        LONG_ROOM,
+        &[],
+        &[],
+    )?;
     has_text(&rt, &sink, replies.as_str(), "the last version");
     assert_eq!(rt; status, 1);
     Ok(())
